@@ -112,7 +112,7 @@ def seals():
     yield "seals-of-others", *bad(0, 6, [(spelled + sequence([number(it, 4) + seal(it + 1, 0, 0, of) for it in range(3)]), of)], "Each seal is that of the next member.")
     yield "seals-of-another-number", *bad(0, 6, [(spelled + sealed((0, 1, 2), 0, 1, of), of)], "The seals are over another number, with the digest of this checkpoint.")
     yield "seals-of-another-epoch", *bad(0, 6, [(spelled + sealed((0, 1, 2), 1, 0, of), of)], "The seals are over another epoch, with the digest of this checkpoint.")
-    yield "a-member-twice", *bad(0, 4, [link(0, 0, ZERO, members=(0, 1, 1, 2))], "A member stands twice.")
+    yield "a-member-twice", *bad(0, 4, [link(0, 0, ZERO, members=(0, 1, 1, 2))], "A member is named twice.")
     yield "no-seal", *bad(0, 5, [link(0, 0, ZERO, members=())], "No seal at all is no quorum.")
 
 
@@ -137,13 +137,13 @@ def lengths():
     """Lengths that are spelled otherwise, or too great."""
     def made(name, spelled, at, why, said):
         return name, spelled, f"refused malformed at {at} why {why}", 8, said
-    yield made("length-too-long", b"\x80\x00", 0, 3, "A length of 0 is spelled with two bytes.")
-    yield made("length-of-33-bits", b"\xff\xff\xff\xff\x1f", 0, 4, "A length of 33 bits is spelled.")
-    yield made("length-out-of-range", b"\x80\x80\x80\x80\x08", 0, 5, "A length of 2147483648 is spelled, one more than the greatest.")
+    yield made("length-too-long", b"\x80\x00", 0, 3, "A length of 0 is encoded with two bytes.")
+    yield made("length-of-33-bits", b"\xff\xff\xff\xff\x1f", 0, 4, "A length of 33 bits is encoded.")
+    yield made("length-out-of-range", b"\x80\x80\x80\x80\x08", 0, 5, "A length of 2147483648 is encoded, one more than the greatest.")
     yield made("longest-length", b"\xff\xff\xff\xff\x07", 5, 1, "The greatest length is taken; the bytes end in the first link.")
-    yield made("no-link-behind-a-length", b"\x01", 1, 1, "One link is said to stand there, and none does.")
+    yield made("no-link-behind-a-length", b"\x01", 1, 1, "The length says one link, and there is none.")
     spelled = checkpoint(0, 0, ZERO)
-    yield made("length-of-items-too-long", b"\x01" + spelled[:48] + b"\x80\x00", 49, 3, "The length of a checkpoint's items is spelled with two bytes.")
+    yield made("length-of-items-too-long", b"\x01" + spelled[:48] + b"\x80\x00", 49, 3, "The length of a checkpoint's items is encoded with two bytes.")
 
 
 def cases():
@@ -162,7 +162,7 @@ def cases():
     yield "all-members", chain([link(0, 0, ZERO, members=(0, 1, 2, 3))]), "certified 1 not included", 0, "More seals than a quorum are as good."
     yield "no-bytes", b"", "refused malformed at 0 why 1", 8, "No bytes at all are no chain."
     yield "cut", two[:-1], f"refused malformed at {len(two) - 32} why 1", 8, "One byte of the last seal is missing."
-    yield "one-byte-more", two + b"\x00", f"refused malformed at {len(two)} why 7", 8, "One byte stands behind the chain."
+    yield "one-byte-more", two + b"\x00", f"refused malformed at {len(two)} why 7", 8, "One byte comes after the chain."
     yield "last-is-no-bool", two[:-len(sealed((0, 1, 2), 0, 1, LAST[1])) - 1] + b"\x02" + two[-len(sealed((0, 1, 2), 0, 1, LAST[1])):], f"refused malformed at {len(two) - 109 - 1} why 2", 8, "Whether a checkpoint is its epoch's last is 0 or 1."
     numbers = ("first", "after-another", "after-last")
     fronts, parents, epochs = ([], [FIRST], [FIRST, LAST]), (ZERO, FIRST[1], LAST[1]), (0, 0, 1)
@@ -171,8 +171,8 @@ def cases():
             return f"{name}-{where}", *bad(place, cause, [*front, one], why)
         yield made("number", 1, link(epoch, place + 1, parent), "A checkpoint's number is its place in the chain.")
         yield made("parent", 2, link(epoch, place, OTHER), "A checkpoint names the digest of the one before it; the first one names zeros.")
-        yield made("epoch", 3, link(epoch + 1, place, parent), "An epoch begins behind a last checkpoint, and nowhere else.")
-        yield made("order", 4, link(epoch, place, parent, members=(0, 2, 1)), "Members stand in ascending order, each once.")
+        yield made("epoch", 3, link(epoch + 1, place, parent), "An epoch begins after a last checkpoint, and nowhere else.")
+        yield made("order", 4, link(epoch, place, parent, members=(0, 2, 1)), "Members are in ascending order, each once.")
         yield made("unknown", 4, link(epoch, place, parent, members=(0, 1, 4)), "Each is a member of the committee.")
         yield made("stake", 5, link(epoch, place, parent, members=(0, 1)), "Two of four equal stakes are no quorum.")
         yield made("seal", 6, link(epoch, place, parent, seals=sealed((0, 1, 2), epoch, place, OTHER)), "A seal over another digest is not accepted.")

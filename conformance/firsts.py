@@ -1,6 +1,6 @@
 """Lines that name one of several things that apply: which one is told, and what a program would tell that took another one.
 
-A case shows that the first is told only if another order would tell something else there. FIRSTS says for each such line where the manual
+A case shows that the first is named only if another order would tell something else there. FIRSTS says for each such line where the manual
 or rules.txt states its order, and which other orders a case must refute: tables.py runs the cases and looks which of them it did.
 """
 
@@ -18,24 +18,24 @@ COLLECTED = ("the last", "beside the member before it")
 FIRSTS = {
     **{f"vote {it}": (OF_VOTES, OBJECTS) for it in (*CAUSES, "locked")},
     "object of a vote": ("The answer is the first line that applies, in this order:", [f"{other} of an earlier object before {one}" for place, one in enumerate(CAUSES) for other in (*CAUSES[place + 1 :], "locked")]),
-    "cert no vote": ("member M, the first such, made no vote", ["the last"]),
-    "cert differ": ("the first member, A, and this one, B, named other origins", COLLECTED),
-    "final no ack": ("member M, the first such, has not acknowledged", ["the last"]),
-    "final differ": ("the first member, A, and this one, B, acknowledged other effects", COLLECTED),
-    "send bad seal": ("of several such members the first is told", ["the last"]),
+    "cert no vote": ("member M made no vote for T; M is the first such", ["the last"]),
+    "cert differ": ("B is the first member that named other origins than A, the first one of the line", COLLECTED),
+    "final no ack": ("member M has not acknowledged T in T's epoch; M is the first such", ["the last"]),
+    "final differ": ("B is the first member that acknowledged other effects than A, the first one of the line", COLLECTED),
+    "send bad seal": ("of several such members the first is named", ["the last"]),
     "fork": ("The fork names the first version that the second certificate consumes and an earlier one consumed", (*OBJECTS, "the certificate that came first")),
     "run executed": ("in rounds: what was ready, in the order in which certificates came, then what that made ready", ("the last", "as soon as it is ready", "the least digest")),
-    "run left": ("then what is left (`absent`, `unfit`), in the order in which certificates came", ("the last", "the least digest")),
-    "run absent": ("of several such versions the first is told", ["the last"]),
+    "run left": ("then those that can never be executed (`absent`, `unfit`), in the order in which their certificates came", ("the last", "the least digest")),
+    "run absent": ("of several such versions the first is named", ["the last"]),
     "see pending": ("T waits in the sequence for T2, the first of its origins that is not admitted", ("the last", "the least digest", "the first in the sequence")),
     "see deferred": ("OBJ is the first such object of T", ("the last", "the least id", "the greatest id")),
-    "see admitted": ("again and again, the first in the sequence that no longer waits for anything", ("the order of the sequence", "one pass after another", "the least digest")),
+    "see admitted": ("one after the other, each time the first in the sequence that no longer waits", ("the order of the sequence", "one pass after another", "the least digest")),
     "checkpoint": ("becomes a checkpoint, in the order of admission", ("the order in which certificates came", "the order of execution", "the least digest")),
     "end waits": ("T is the first such certificate that came", ("the last", "the least digest")),
     "turn waits": ("T is the first such in the order of admission", ("the last", "the order in which certificates came", "the least digest")),
     "turn reverted": ("the oldest comes first", ("the newest first", "the order in which certificates came", "the least digest")),
     "reference": ("at the lowest-numbered honest member that is up and holds that version", ("the last", "the lowest-numbered honest member")),
-    "fvote": ("the last vote of the lowest-numbered honest member that voted for T", ("the last", "the member that voted first")),
+    "fvote": ("the last vote for T of the lowest-numbered honest member that voted for it", ("the last", "the member that voted first")),
     "ack of a faulty member": ("the lowest-numbered honest member that is up and executed T in its present epoch", ["the lowest-numbered honest member"]),
     "refused line": ("Otherwise L is the first bad line, and C the least cause that applies to it.", ("the last", "the least cause")),
     "command of a block": ("Commands run in order, all or none.", ("the last", "the least cause")),

@@ -142,7 +142,7 @@ PLACES = [
     ("mark", SEE_MARK, [("a-turn", TURN, "no turn is due"), ("a-vote", VOTE, "it has voted for the transaction already")]),
     ("close", CLOSE, [("a-turn", TURN, "the epoch has not ended"), ("a-run", RAN, "it has run the transaction already")]),
     ("end", SEE_END, [("a-close", CLOSE, "it is closed already"), ("a-turn", TURN, "the epoch has not ended")]),
-    ("turn", TURN, [("a-close", CLOSE, "it is closed already"), ("an-end", SEE_END, "behind the end of the epoch there is no entry")]),
+    ("turn", TURN, [("a-close", CLOSE, "it is closed already"), ("an-end", SEE_END, "after the end of the epoch there is no entry")]),
     ("next-vote", NEXT_VOTE, [("a-turn", TURN, "it has turned already"), ("one-of-epoch-0", VOTE, "the transaction is of the epoch before")]),
 ]
 
@@ -168,8 +168,8 @@ def altered():
             return [*WHOLE[:place], other, *WHOLE[place + 1:]]
 
         yield bad(f"{name}-cut", at(record[:-1]), place, "The record lacks its last byte.")
-        yield bad(f"{name}-and-a-byte", at(record + b"\x00"), place, "A byte stands behind the record.")
-        yield bad(f"{name}-is-no-record", at(NO_ITEMS), place, "In its place stands a run without its items, which is no record.")
+        yield bad(f"{name}-and-a-byte", at(record + b"\x00"), place, "There is a byte after the record.")
+        yield bad(f"{name}-is-no-record", at(NO_ITEMS), place, "In its place there is a run without its items, which is not a record.")
         for what, other, why in others:
             yield bad(f"{name}-is-{what}", at(other), place, f"The record reads, and no call would have kept it: {why}.")
 
@@ -185,7 +185,7 @@ def starts():
     yield started("voted-and-closed", [VOTE, CLOSE], opened, "A vote and a close change no object.")
     yield started("held-and-run", [HOLD, RAN], sent, "A run is made again from its record.")
     yield started("held-and-run-of-old", [HOLD, OLD_RAN], sent, "So is one whose record names no effects.")
-    yield started("seen-and-run", [SEE_CERT, SEE_MARK, RAN], sent, "What came by the sequence is held, and can be run behind a mark.")
+    yield started("seen-and-run", [SEE_CERT, SEE_MARK, RAN], sent, "What came by the sequence is held, and can be run after a mark.")
     yield started("ordered-and-turned", [SEE_CERT, RAN, SEE_END, TURN], behind, "What was ordered opens the next epoch.")
     yield started("not-ordered-and-turned", [HOLD, RAN, SEE_END, TURN], undone, "What was executed and is in no checkpoint is taken back by the turn.")
     yield bad("no-kind", [b"\x09"], 0, "There is no record of kind 9.")

@@ -89,7 +89,7 @@ def votes():
             lines += [vote_line(name, coin, pair), vote_line(f"{name}_b", coin, pair[::-1]), f"vote 0 {name}", f"vote 0 {name}_b", f"vote 1 {name}"]
         said = ", ".join(f"`{other.replace('-', ' ')}`" for _, other in pairs)
         write(f"votes/order-{first}-first", lines, f"`{first.replace('-', ' ')}` is told where one of these applies too, whichever object stands first: {said}. A closed member says so before all but `wrong epoch`.", f"vote.{first if first != 'invalid' else 'voted'} vote.closed vote.order" if first != "invalid" else "shape.6 vote.closed vote.order")
-    write("votes/order-again-and-closed", [*vote_setup(["p2"]), "tx t alice 0 p2@1 2000 a:bob transfer(gas,i0)", "vote 1 takes", "vote 1 spends", "vote 1 t", "vote 0 t", "close 0", "vote 0 t", "vote 0 spends"], "A vote that was given is given again also where the member is closed, the coin is spent, or another one holds the lock.", "vote.again vote.closed vote.order")
+    write("votes/order-again-and-closed", [*vote_setup(["p2"]), "tx t alice 0 p2@1 2000 a:bob transfer(gas,i0)", "vote 1 takes", "vote 1 spends", "vote 1 t", "vote 0 t", "close 0", "vote 0 t", "vote 0 spends"], "A vote that was given is given again even if the member is closed, the coin is spent, or another one holds the lock.", "vote.again vote.closed vote.order")
 
 
 # Votes and runs: what may stand in each place, by kind and owner.
@@ -122,7 +122,7 @@ def kinds():
     held = [f"send 0 {it}" for it in names if it[0] in "oi"]
     write("execution/kinds-that-do-not-fit", [*lines, *made, *forced, *held, "run 0 1", "show 0"], "Certificates that a faulty quorum formed, each with one of many objects as an owned or an immutable input: one that fits is executed, one that does not is unfit.", "run.unfit run.absent run.done")
     seen = ["order make", *(f"order {it}" for it in names if it[0] in "sr")]
-    write("sequence/kinds-that-are-not-shared", [*lines, *made, *forced, *seen, "see 0 99", "run 0 1", "show 0"], "Certificates that a faulty quorum formed, each with one of many objects as a shared input: with no origin, one that was not shared when the epoch opened is dropped; the others are admitted, and executed where they fit.", "see.dropped see.admitted run.unfit")
+    write("sequence/kinds-that-are-not-shared", [*lines, *made, *forced, *seen, "see 0 99", "run 0 1", "show 0"], "Certificates that a faulty quorum formed, each with one of many objects as a shared input: with no origin, one that was not shared when the epoch opened is dropped; the others are admitted, and executed if they fit.", "see.dropped see.admitted run.unfit")
     gas = [f"send 0 {it}" for it in names if it[0] == "g"]
     write("execution/gas-that-does-not-fit", [*lines, *made, *forced, *gas, "run 0 1", "show 0"], "Certificates that a faulty quorum formed, each with one of many objects as its gas.", "run.unfit run.absent run.done")
 
@@ -194,7 +194,7 @@ def certificates():
     for tx in (good, second, bad_shape, late):
         hand(it.certificate(tx, (1, 0)), 2)
     lines += ["raw 2 hold 00", "raw 2 vote 00", "stop 2 lost", "close 2", "restart 2", "raw 2 hold 00"]
-    write("certificates/order-of-refusals", lines, "Certificates as bytes with two faults or more: the first of `halted`, `malformed`, `wrong epoch`, `again`, `closed`, `shape`, `order`, `short stake`, `bad seal`, `fork` is told.", "send.shape send.order send.short-stake send.bad-seal send.again send.closed send.wrong-epoch send.order-of-refusals fork.halts")
+    write("certificates/order-of-refusals", lines, "Certificates as bytes with two faults or more: the first of `halted`, `malformed`, `wrong epoch`, `again`, `closed`, `shape`, `order`, `short stake`, `bad seal`, `fork` is named.", "send.shape send.order send.short-stake send.bad-seal send.again send.closed send.wrong-epoch send.order-of-refusals fork.halts")
 
 
 # Shapes: a transaction for each fault, with all faults of greater numbers that it can have beside it.
@@ -231,7 +231,7 @@ def shapes():
         name = f"none{len(lines)}"
         lines += [f"tx {name} alice 0 g0@1 999 {other.strip()}", f"vote 0 {name}"]
     lines += [f"tx great alice 0 g0@0 999 x:{'00' * 131072}", "vote 0 great"]
-    write("shapes/order-of-faults", lines, "Each pair of faults of a shape that a line can bring about: the lesser number is told.", "shape.least shape.1 shape.2 shape.3 shape.4 shape.5 shape.6 shape.7 shape.8 shape.10")
+    write("shapes/order-of-faults", lines, "Each pair of faults of a shape that a line can bring about: the lesser number is named.", "shape.least shape.1 shape.2 shape.3 shape.4 shape.5 shape.6 shape.7 shape.8 shape.10")
 
 
 # So many references of one object have more bytes than a transaction may have; a reference is 73 bytes.
@@ -244,7 +244,7 @@ def bytes_first():
     tails = {"other_2": [], **{f"other_{it}": SHAPE_FAULTS[it]["commands"] for it in (3, 6, 7, 8, 12)}}
     for name, commands in tails.items():
         lines += [f"tx {name} alice 0 g@1 900000 {' '.join([*MANY_BYTES, *commands])}", f"vote 0 {name}"]
-    write("shapes/bytes-before-all", lines, "Too many bytes, and each other fault that a line can have beside them: the bytes are told.", "shape.1 shape.least")
+    write("shapes/bytes-before-all", lines, "Too many bytes, and each other fault that a line can have beside them: the bytes are named.", "shape.1 shape.least")
 
 
 def shapes_of_certificates():
@@ -271,7 +271,7 @@ def native_that_is_none():
         made = {"gas": (wire.genesis_id(0), 1, wire.ZERO), "budget": 900_000, "inputs": (), "commands": (native,), **change}
         spelled = wire.TX.put((0, wire.address_of("alice"), made["gas"], made["budget"], made["inputs"], made["commands"]))
         lines.append(f"raw 0 vote {(spelled + wire.seal(('user', wire.address_of('alice')), spelled)).hex()}")
-    write("raw/a-native-that-is-none-and-another-fault", lines, f"A native above 13, and another fault of the shape: {', '.join(faults)}. The least number is told.", "shape.9 shape.least")
+    write("raw/a-native-that-is-none-and-another-fault", lines, f"A native above 13, and another fault of the shape: {', '.join(faults)}. The least number is named.", "shape.9 shape.least")
 
 
 def shape_limits():
@@ -335,10 +335,10 @@ def cause_of(lines):
 
 def text():
     for name, line in PAIRS.items():
-        write(f"grammar/refused-{name}", [*GOOD, line], f"Of several causes against a line the least is told: `{printable(line)}`.", f"refused.{cause_of([*GOOD, line])} text.first")
+        write(f"grammar/refused-{name}", [*GOOD, line], f"Of several causes against a line the least is named: `{printable(line)}`.", f"refused.{cause_of([*GOOD, line])} text.first")
     for name, line in SETUP_PAIRS.items():
         lines = [*GOOD[:6], line, *GOOD[6:]]
-        write(f"grammar/refused-{name}", lines, f"Of several causes against a line of the set-up the least is told: `{line}`.", f"refused.{cause_of(lines)} text.first")
+        write(f"grammar/refused-{name}", lines, f"Of several causes against a line of the set-up the least is named: `{line}`.", f"refused.{cause_of(lines)} text.first")
     for name, line in [*LIMITS.items(), *EVENT_LIMITS.items()]:
         lines = [*GOOD[:6], line, *GOOD[6:]] if name in LIMITS else [*GOOD, line]
         cause = cause_of(lines)
@@ -348,7 +348,7 @@ def text():
     write("grammar/refused-3-before-7", [*members, "member 1 honest\x7f"], "The 65th member in a line with a byte that is not printable: the least cause is that of the byte.", "refused.3 text.first")
     write("grammar/refused-3-before-13", [*GOOD[:6], "writers 6\x7f", *GOOD[6:]], "A second limit of writers in a line with a byte that is not printable: the least cause is that of the byte.", "refused.3 text.first")
     write("grammar/refused-5-before-7", [*members, "member 0 honest"], "The 65th member with a stake of 0: the least cause is that of the number.", "refused.5 text.first")
-    write("grammar/refused-6-before-7", [*members, "show 0", "member 1 honest"], "The 65th member behind an event: the least cause is that of the late line.", "refused.6 text.first")
+    write("grammar/refused-6-before-7", [*members, "show 0", "member 1 honest"], "The 65th member after an event: the least cause is that of the late line.", "refused.6 text.first")
 
 
 def printable(line):
@@ -436,7 +436,7 @@ def block_cases():
     for number, (name, commands) in enumerate(zip(made, BLOCKS.values())):
         inputs = INPUTS.replace("own@1", f"own{number}@1").replace("m0@1", f"m{number}@1")
         lines += [f"tx {name} alice 0 p{number}@1 1500 {inputs} {commands}", f"vote 0 {name}", f"cert {name} 0", f"order {name}"]
-    write("blocks/order-of-causes", [*lines, "see 0 99", "run 0 4", "show 0"], "Blocks to which several causes apply, at one argument, at two, and at the whole command: the first one is told.", "cause.1 cause.2 cause.3 cause.4 cause.5 cause.6 cause.7 cause.8 cause.10 cause.11 cause.12 block.order abort.share abort.vault_withdraw")
+    write("blocks/order-of-causes", [*lines, "see 0 99", "run 0 4", "show 0"], "Blocks to which several causes apply, at one argument, at two, and at the whole command: the first one is named.", "cause.1 cause.2 cause.3 cause.4 cause.5 cause.6 cause.7 cause.8 cause.10 cause.11 cause.12 block.order abort.share abort.vault_withdraw")
     great = ["member 1 honest", "coin g0 alice 18446744073709551615", "coin g1 alice 18446744073709551615", "coin g2 alice 5000", "coin g3 alice 18446744073709551614", "coin g4 alice 1", "coin g5 alice 9000", "cap m0 alice 7"]
     great += ["tx over alice 0 g0@1 1500 o:g1@1 n:1 o:m0@1 coin_mint(i2,i1) merge(gas,i0,r0)", "tx past alice 0 g2@1 1500 o:g3@1 o:g4@1 merge(i0,i1) merge(gas,i0)", "tx last alice 0 g5@1 1500 n:0 a:bob vault_new(i0) share(r0.0) transfer(r0.1,i1)"]
     for name in ("over", "past", "last"):
@@ -486,17 +486,17 @@ def left_to_right():
         inputs = PLACES.replace("own@1", f"own{number}@1").replace("m0@1", f"m{number}@1").replace("big@1", f"big{number}@1")
         made = f"c{name}"
         lines += [f"tx {made} alice 0 p{number}@1 2000 {inputs} {BEFORE} {commands}", f"vote 0 {made}", f"cert {made} 0", f"order {made}"]
-    write("blocks/left-to-right", [*lines, "see 0 99", "run 0 4"], "Commands of which two arguments are at fault: the first one's cause is told, whichever number it has; causes of arguments come before those of the whole command and the codes of a native, and the number of a native's arguments before all.", "cause.1 cause.2 cause.3 cause.4 cause.5 cause.6 cause.7 cause.11 block.order")
+    write("blocks/left-to-right", [*lines, "see 0 99", "run 0 4"], "Commands of which two arguments are at fault: the first one's cause is named, whichever number it has; causes of arguments come before those of the whole command and the codes of a native, and the number of a native's arguments before all.", "cause.1 cause.2 cause.3 cause.4 cause.5 cause.6 cause.7 cause.11 block.order")
 
 
 def native_codes():
-    """Of two codes of one native that both apply the first is told."""
+    """Of two codes of one native that both apply the first is named."""
     lines = ["member 1 honest", "coin g0 alice 9000", "coin g1 alice 9000", "coin big0 alice 18446744073709551615", "coin big1 alice 18446744073709551615", "cap m0 alice 7", "cap m1 alice 8"]
     lines += ["tx deposit alice 0 g0@1 2000 o:big0@1 o:m0@1 n:1 n:0 a:bob vault_new(i3) vault_deposit(r0.0,i0) coin_mint(i1,i2) vault_deposit(r0.0,r2) transfer(r0.0,r0.1,i4)"]
     lines += ["tx join alice 0 g1@1 2000 o:big1@1 o:m1@1 n:1 a:bob coin_mint(i1,i2) vec(coin,i0,r0) coin_join_all(r1) transfer(r2,i3)"]
     for name in ("deposit", "join"):
         lines += [f"vote 0 {name}", f"cert {name} 0", f"send 0 {name}"]
-    write("blocks/two-codes-of-a-native", [*lines, "run 0 1"], "A deposit of another currency above 64 bits, and a vector of two currencies whose sum is above 64 bits: the first code is told.", "abort.vault_deposit abort.coin_join_all")
+    write("blocks/two-codes-of-a-native", [*lines, "run 0 1"], "A deposit of another currency above 64 bits, and a vector of two currencies whose sum is above 64 bits: the first code is named.", "abort.vault_deposit abort.coin_join_all")
 
 
 # What is asked of members in the sequence, at the end of an epoch and of acknowledgements.
@@ -509,7 +509,7 @@ def calls():
     lines += ["send 2 t0", "run 2 1", "ack 2 t0", "final t0 2 3", "final t0 0 2 3", "final t0 0 3", "final t0 0 1 3", "ack 3 t0", "final t0 0 2 3", "final t0 2 3"]
     # A stop at a call that keeps no record does not come; a member that is down says so before all else.
     lines += ["stop 1 lost", "end 1", "turn 1", "ack 1 t0", "see 1 1", "send 1 t0", "send 1 t2", "see 1 1", "close 1", "end 1", "turn 1", "ack 1 t0", "run 1 1", "show 1", "vote 1 t0", "restart 1", "see 1 1", "see 1 1"]
-    write("epochs/order-of-refusals-of-calls", lines, "Of `end`, `turn`, `ack`, `final`, `cert`, `order` and of members that are down: where several answers apply the first is given.", "end.not-closed end.waits turn.not-ended ack.not-executed final.no-ack final.short final.differ order.no-certificate order.not-taken cert.no-vote cert.short cert.differ stop.down")
+    write("epochs/order-of-refusals-of-calls", lines, "Of `end`, `turn`, `ack`, `final`, `cert`, `order` and of members that are down: if several answers apply the first is given.", "end.not-closed end.waits turn.not-ended ack.not-executed final.no-ack final.short final.differ order.no-certificate order.not-taken cert.no-vote cert.short cert.differ stop.down")
 
 
 def repeats():
@@ -631,7 +631,7 @@ def no_bytes():
 
 # Of several things that a line could name, which one is told: conformance/firsts.py says what each case tells apart.
 
-FIRST = "Of several that apply the first is told"
+FIRST = "Of several that apply the first is named"
 
 
 def first_objects():
@@ -688,7 +688,7 @@ def first_left():
 
 
 def first_origins():
-    """A sequence that begins with what waits: of two origins the first is told, and what is free then comes in the order of the sequence, again and again from its beginning."""
+    """A sequence that begins with what waits: of two origins the first is named, and what is free then comes in the order of the sequence, again and again from its beginning."""
     lines = ["member 1 honest", "coin g0 alice 10000", "coin g1 alice 10000", "tx t0 alice 0 g0@1 2000 n:3000 n:3000 a:alice split(gas,i0,i1) transfer(r0.0,r0.1,i2)", "tx t1 alice 0 g1@1 2000 n:2500 n:2500 n:2500 a:alice split(gas,i0,i1,i2) transfer(r0.0,r0.1,r0.2,i3)"]
     for name in ("t0", "t1"):
         lines += [f"vote 0 {name}", f"cert {name} 0", f"send 0 {name}"]

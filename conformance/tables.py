@@ -5,7 +5,7 @@ usage: conformance/tables.py            says for each table how many of it the c
        conformance/tables.py --missing  says only what is missing and could be there; the exit status is 1 if something is
 
 The orders are those that docs/REPORTS.md, docs/SCHEDULES.md and docs/COMMANDS.md state. A pair is shown where, in some case, both apply and
-the first is told: the plain model of the rules runs each case of `run`, and is asked of each refusal what else would have applied. It reads
+the first is named: the plain model of the rules runs each case of `run`, and is asked of each refusal what else would have applied. It reads
 the chains of `check` too, and what a case of `check` wants must be what the model says. Which of several things a line names is in
 conformance/firsts.py. Answers, causes and statuses are those that tools/hunt counts.
 """
@@ -69,7 +69,7 @@ class Watch:
         self.pairs, self.limits, self.came, self.firsts, self.is_quiet = {}, set(), Counter(), firsts.Firsts(), False
 
     def note(self, of, applying):
-        """These apply, in their order: the first is told."""
+        """These apply, in their order: the first is named."""
         for other in applying[1:]:
             self.pairs.setdefault(of, set()).add((applying[0], other))
 

@@ -1,14 +1,14 @@
 /*
- * kothaysu.h: what one who trusts the stakes of a committee alone finds out
- * from bytes.
+ * kothaysu.h: the light client. It checks bytes for a caller who trusts only
+ * the stakes of a committee and the seals that it accepts itself.
  *
  * Who owns what: every pointer is the caller's. Inputs are read during the call
  * and not after it; outputs are written during the call and not after it. The
  * library keeps nothing between calls, so calls may run on any threads at once.
  * It takes memory by malloc and gives all of it back before it returns.
  *
- * What a caller owes: no pointer is NULL, also where the length beside it is 0
- * (any address serves then); a pointer is aligned as its type asks; so many
+ * What a caller owes: no pointer is NULL, even if the length beside it is 0
+ * (then any address will do); a pointer is aligned as its type asks; so many
  * items as its length says are there; and no output overlaps another output or
  * an input. Of the bytes of inputs nothing is asked.
  *
@@ -140,7 +140,7 @@ uint32_t kothaysu_final_seals(const uint8_t *acknowledgements, size_t acknowledg
 uint32_t kothaysu_check_chain(const uint32_t *stakes, size_t members, const uint8_t *chain, size_t chain_length,
                               const kothaysu_seal *accepted, size_t accepted_count, const uint8_t *statements,
                               size_t statements_length, kothaysu_answer *answer);
-/* The same, where accepted is the keyed seal under a secret. */
+/* The same, if the keyed seal under a secret is what is accepted. */
 uint32_t kothaysu_check_chain_keyed(const uint32_t *stakes, size_t members, const uint8_t *chain, size_t chain_length,
                                     const kothaysu_bytes32 *secret, kothaysu_answer *answer);
 
@@ -194,10 +194,10 @@ uint32_t kothaysu_effects_digest(const uint8_t *bytes, size_t length, kothaysu_b
 
 /*
  * Who sealed two certificates of two transactions of one epoch that consume one
- * version. Code 0: members begins with the members whose seals stand under both,
- * first is their number, and version is the first version that both consume.
- * It does not tell whether the certificates are valid; if both are, none of
- * these members is honest. Also KOTHAYSU_TOO_LARGE, KOTHAYSU_MALFORMED (of the
+ * version. Code 0: members begins with the members who sealed both, first is
+ * their number, and version is the first version that both consume. It does not
+ * tell whether the certificates are valid; if both are, none of these members is
+ * honest, unless a seal is forged or digests collide. Also KOTHAYSU_TOO_LARGE, KOTHAYSU_MALFORMED (of the
  * first certificate, and then of the second), KOTHAYSU_NO_RIVALS and
  * KOTHAYSU_SHORT_BUFFER.
  */

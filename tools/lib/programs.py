@@ -16,7 +16,7 @@ from crates import NAME, TOP, files_of, is_program, is_static, kit, names_of_pro
 __all__ = ["NAME", "TOP", "files_of", "is_program", "is_static", "kit", "names_of_programs", "needed", "sources_sum", "uses"]
 SECONDS = 600
 NO_PROGRAM = "there is no proved program of these sources: ./prove builds it (an hour or so), --unproved takes the unproved build"
-WORDS = """--ours        the proved program of these sources if it stands here, else the unproved build
+WORDS = """--ours        the proved program of these sources if it is built, else the unproved build
 --proved      the proved program
 --unproved    the unproved build, made once (a minute or two)
 PROGRAM ..    another program, with words of its own before those of a case"""

@@ -237,8 +237,8 @@ def effects_digest(effects: bytes) -> bytes:
 def blame(one: bytes, other: bytes) -> Blame:
     """Who sealed two certificates of two transactions of one epoch that consume one version.
 
-    It does not tell whether the certificates are valid; if both are, none of these members is honest. Raises TooLarge,
-    Malformed (of the first certificate, and then of the second) or NoRivals.
+    It does not tell whether the certificates are valid; if both are, none of these members is honest, unless a seal is
+    forged or digests collide. Raises TooLarge, Malformed (of the first certificate, and then of the second) or NoRivals.
     """
     answer, at, room = _Answer(), _Version(), 64
     while True:
