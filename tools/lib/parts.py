@@ -9,7 +9,7 @@ import collections
 # early: whether .ci/run runs it before anything is proved; such a part needs no program, and takes some seconds
 Part = collections.namedtuple("Part", "name words programs unproved early", defaults=((), None, False))
 NOT_RUN = ("not run",)
-COMMITTEE, BOTH = ("committee",), ("committee", "inspect")
+COMMITTEE, BOTH, ALL = ("committee",), ("committee", "inspect"), ("committee", "inspect", "validator")
 EXAMPLES = ("example_client", "example_node", "example_file", "example_payment")
 
 PARTS = (
@@ -26,7 +26,7 @@ PARTS = (
     Part("tools", ("tools/test_tools", "all"), early=True),
     Part("hunt", ("tools/test_hunt", "all")),
     Part("pages of runs", ("tools/test_view", "all")),
-    Part("faults of the system", ("tools/test_faults", "--ours"), BOTH),
+    Part("faults of the system", ("tools/test_faults", "--ours"), ALL),
     Part("journal under kills", ("tools/test_journal", "--seconds", "5", "--ours"), COMMITTEE),
     Part("images of crashes", ("tools/crash_images", "--trace", "--ours"), COMMITTEE, ("tools/crash_images", "--trace", "--replays", "20", "--ours")),
     Part("conformance", ("conformance/run", "--ours"), BOTH),
