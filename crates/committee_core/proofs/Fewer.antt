@@ -57,9 +57,12 @@ module _ (first lists : Journals) (m : ℕ) (bytes : List ℕ) (lt : m < length 
   -- ---- prefixes
 
   fronts : (trust : Trust) (s : Schedule) → KeepsFronts trust s (Some first) (Some more) → KeepsFronts trust s (Some first) (Some lists)
-  fronts trust s (all, is, front) =
-      (lists, refl, λ k. front-then (journal_of lists k) (journal_of more k) (journal (setting_in trust s) s.events k) (front-more lists m bytes k)
-      (subst (λ (l : Journals). IsFront (journal_of l k) (journal (setting_in trust s) s.events k)) (sym (ap or-none is)) (front k)))
+  fronts trust s (all, is, front) = (
+    lists,
+    refl,
+    λ k. front-then (journal_of lists k) (journal_of more k) (journal (setting_in trust s) s.events k) (front-more lists m bytes k)
+        (subst (λ (l : Journals). IsFront (journal_of l k) (journal (setting_in trust s) s.events k)) (sym (ap or-none is)) (front k)),
+  )
 
   run-cut : (trust : Trust) (s : Schedule) (held held' : Option (List ℕ)) → RunsCut trust s held held' (Some first) (Some more) → RunsCut trust s held held' (Some first) (Some lists)
   run-cut trust s held held' (inl front) = inl (record { written = front.written; journals = fronts trust s front.journals })

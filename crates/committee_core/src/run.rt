@@ -204,9 +204,7 @@ pub(crate) fn run_schedule<R: Threads + Sync, S: MakesSeals, K: Sink, D: Keeper>
     // observable lists are as many as the keeper has
     let _ = keeper.members();
     match open_to_run(alloc, schedule, sealer, waits) {
-        Ok(mut world) => match run_steadily(
-            rt, alloc, &mut world, schedule, sealer, sink, keeper,
-        ) {
+        Ok(mut world) => match run_steadily(rt, alloc, &mut world, schedule, sealer, sink, keeper) {
             Ok(()) => Ok(world),
             Err(stop) => {
                 drop(world);
