@@ -27,12 +27,12 @@ impl World {
     /// failed, and its count of faults rose. `BadRecord`: the member of a `restart` line does not start from its records.
     ///
     /// After a fault the world still stands: each look answers of it, and a step may follow. The names, the transactions, the
-    /// certificates and the sequences are as before, except that an `order end` may have ordered its End, and opened no epoch
-    /// then. So is every member except the one that the line calls. That one is as before its
-    /// call; or it fell in the call and is down, so no look finds it, and its record was kept or not; or it is as after the
-    /// call, its record was kept, and only the line of the report is missing. A `see` may have handed in some entries before
-    /// that. A member that fell starts again from its records by a `restart` line, and a `restart` that fails changes
-    /// nothing. Of what was stated nothing is said.
+    /// certificates and the sequences are as before; only an `order end` may have ordered its End, and opened no epoch then.
+    /// Every member except the one that the line calls is as before, too. That one is as before its call; or it fell in the
+    /// call and is down, so no look finds it, and its record was kept or not; or it is as after the call, its record was
+    /// kept, and only the line of the report is missing. A `see` may have handed in some entries before that. A member that
+    /// fell starts again from its records by a `restart` line, and a `restart` that fails changes nothing. Of what was stated
+    /// nothing is said.
     #[tactic(auto, unfolding(scene_spec::specs::Steps::work_of), using(crate::proofs::Steps::fault_left, crate::proofs::Leaving::quiet_leaves, crate::proofs::Stays::restart_stays, crate::proofs::Cuts::quiet_line, crate::proofs::Cuts::same_books, crate::proofs::Cuts::still_books, crate::proofs::Cuts::idle_line_on, crate::proofs::Cuts::on_err))]
     pub fn step<R: Threads + Sync, D: Keeper, S: MakesSeals>(
         &mut self,
