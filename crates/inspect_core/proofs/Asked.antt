@@ -21,7 +21,7 @@ use Rattle.scene_spec.specs.Worlds.{Shows, posts_from}
 use Rattle.world_core.specs.Crews.{honest_at, honest_flags}
 use Rattle.light_check.specs.Certified.{Accepting}
 use Rattle.committee_core.proofs.Caught.{untold}
-use Rattle.committee_core.proofs.Made.{whole_fronts}
+use Rattle.committee_core.proofs.Whole.{whole_fronts}
 use Rattle.committee_core.specs.Headline.{program_trust}
 use Rattle.committee_core.specs.Report.{refusal_text, setting_in}
 use Rattle.committee_core.specs.Ways.{RunsSilently, TextCut}

@@ -4,8 +4,8 @@ use Rattle.command_words.specs.Words.{command_in}
 use Rattle.committee_core.proofs.Fewer.{begins_as, ends_called}
 use Rattle.committee_core.proofs.in_file.obey_over.Goals as goal
 
-pub committee-requires-clause-empty : goal.committee-requires-clause-empty
-committee-requires-clause-empty g c κs within = begins_as g.F.Disk.history g.F.Disk.failed (command_in (map string_bytes c.args.words.now)) c.new-log.result c.args.log c.new-log.ensures c.requires.empty
+pub committee-status-requires-clause-empty : goal.committee-status-requires-clause-empty
+committee-status-requires-clause-empty g c κs within = begins_as g.F.Disk.history g.F.Disk.failed (command_in (map string_bytes c.args.words.now)) c.new-log.result c.args.log c.new-log.ensures c.requires.empty
 
 pub returns : goal.returns
 returns g c =
