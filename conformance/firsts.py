@@ -29,7 +29,7 @@ FIRSTS = {
     "run absent": ("of several such versions the first is named", ["the last"]),
     "see pending": ("T waits in the sequence for T2, the first of its origins that is not admitted", ("the last", "the least digest", "the first in the sequence")),
     "see deferred": ("OBJ is the first such object of T", ("the last", "the least id", "the greatest id")),
-    "see admitted": ("one after the other, each time the first in the sequence that no longer waits", ("the order of the sequence", "one pass after another", "the least digest")),
+    "see admitted": ("as long as there is one, the first in the sequence of those that waited", ("the order of the sequence", "one pass after another", "the least digest")),
     "checkpoint": ("becomes a checkpoint, in the order of admission", ("the order in which certificates came", "the order of execution", "the least digest")),
     "end waits": ("T is the first such certificate that came", ("the last", "the least digest")),
     "turn waits": ("T is the first such in the order of admission", ("the last", "the order in which certificates came", "the least digest")),
