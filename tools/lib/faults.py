@@ -154,7 +154,7 @@ def bad_form(line):
 def order_of(line, lines):
     if line.word == "cap":
         return f"an earlier cap has currency {line.words[3]}"
-    return "a second `writers` line" if line.word == "writers" else "the members do not ascend, or one stands twice"
+    return "a second `writers` line" if line.word == "writers" else "name the members in ascending order, each once"
 
 
 def role_of(line):

@@ -15,7 +15,7 @@ HELP, VERSION = ([], ["help"], ["--help"], ["-h"]), ["--version"]
 NO_SCHEDULE = ("make", "check")
 # The programs that read a schedule from standard input, after which the script may have something to say.
 READS_SCHEDULE = ("committee", "inspect")
-WRONG_WORDS, REFUSED = 2, 3
+WRONG_WORDS, REFUSED, NOT_EMPTY = 2, 3, 8
 HANDED_ON = (signal.SIGINT, signal.SIGTERM, signal.SIGHUP, signal.SIGQUIT, signal.SIGUSR1, signal.SIGUSR2)
 
 
@@ -46,7 +46,7 @@ class Launch:
     def built(self, build):
         """The program once it is built and kept; no text if this kit leaves nothing to keep; none if it cannot be built."""
         try:
-            with kept.Moving(f"{self.name}: building the sources without a proof, once: a minute or two"):
+            with kept.Moving(f"{self.name}: building the sources without a proof, once: a minute or two on an idle machine"):
                 came = build.make()
         except OSError as fault:
             self.say(f"{fault.filename or build.place}: {fault.strerror}, so the unproved build is not kept")
@@ -68,7 +68,7 @@ class Launch:
         if "in" in self.words:
             self.say("`in FILE` needs the proved program, since this kit's unproved run keeps no file: ./prove")
             return None
-        with kept.Moving(f"{self.name}: building the sources without a proof: a minute or two"):
+        with kept.Moving(f"{self.name}: building the sources without a proof: a minute or two on an idle machine"):
             ran = subprocess.run(["rt", "try", "--", *self.words], cwd=f"{crates.TOP}/crates/{self.name}", capture_output=True)
         said = ran.stderr.decode(errors="replace")
         ended = re.match(r"run=ended status=(\d+) ", said.splitlines()[-1] if said else "")
@@ -92,6 +92,8 @@ class Launch:
             self.say(f"./{self.name} help says what the words mean")
         if at == REFUSED and self.name in READS_SCHEDULE and self.words[:1] not in ([it] for it in NO_SCHEDULE):
             self.say(f"the text is not a schedule. What to change: {self.advice()}")
+        if at == NOT_EMPTY and self.words[:1] in (["run"], ["make"]):
+            self.say("a journal file keeps one run. Name a new file after `in`, or remove this one")
         return 1 if at is None else at
 
     def ended(self, program):

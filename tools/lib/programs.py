@@ -57,7 +57,7 @@ def unproved(name=NAME):
     build = kept.Build(name)
     at = build.stands()
     if at is None and not build.cannot():
-        with kept.Moving(f"building {name} without a proof, once for these sources: a minute or two"):
+        with kept.Moving(f"building {name} without a proof, once for these sources: a minute or two on an idle machine"):
             at = build.stands() if build.make() == kept.KEPT else None
     return at
 

@@ -188,7 +188,7 @@ class Parts(unittest.TestCase):
 
     def test_some_parts(self):
         self.assertEqual(self.ran([("one", "true"), ("two", "false")], words=["one"]), (0, unittest.mock.ANY))
-        self.assertEqual(self.ran([("one", "true")], words=["three"])[0], 2)
+        self.assertEqual(self.ran([("one", "true")], words=["three"]), (2, ["test: no part has three in its name (./test --list)"]))
         for words in (["one", "--jobs", "2"], ["--jobs", "2", "one"]):
             self.assertEqual(self.ran([("one", "true"), ("two", "false")], words=words)[0], 0)
         for words in (["--jobs"], ["--jobs", "0"], ["--jobs", "one"]):
