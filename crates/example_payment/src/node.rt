@@ -75,7 +75,7 @@ fn answer<R: Threads + Wait + Sync>(
 }
 
 /// A node of this number, from its opening to the end of its epoch.
-pub fn live<R: Threads + Wait + Sync>(
+pub(crate) fn live<R: Threads + Wait + Sync>(
     rt: &R,
     alloc: Global,
     number: u32,

@@ -72,7 +72,12 @@ fn end<R: Wait + Print>(rt: &R, alloc: Global, nodes: &Nodes, cert: Certificate)
 }
 
 /// A payment, a second spend of its coin, and the end of the epoch.
-pub fn trade<R: Wait + Print>(rt: &R, alloc: Global, nodes: &Nodes, text: &[u8]) -> Result<()> {
+pub(crate) fn trade<R: Wait + Print>(
+    rt: &R,
+    alloc: Global,
+    nodes: &Nodes,
+    text: &[u8],
+) -> Result<()> {
     let (payment, second) = text.split_at(text.len() / 2);
     let committee = Committee::new(&[1, 1]).map_err(Error::from)?;
     let cert = order(rt, alloc, nodes, &committee, payment)?;
