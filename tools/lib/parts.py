@@ -16,6 +16,7 @@ PARTS = (
     Part("edits that must fail", ("tools/edits", "--check"), early=True),
     Part("crates and paths", ("tools/paths", "--check"), early=True),
     Part("statements that stand twice", ("tools/twice", "--check"), early=True),
+    Part("what nothing uses", ("tools/unused", "--check"), early=True),
     Part("what executes a block", ("tools/executes", "--check"), early=True),
     Part("rules and their cases", ("conformance/list", "--check"), early=True),
     Part("pages made from sources", ("tools/pages", "check"), early=True),

@@ -117,7 +117,7 @@ pub returns : goal.returns
 returns c = grind (arith, both, elsewhere c.n, other, near, Rattle.one.proofs.Lists.by_whole_path, passed_on)
 """
 TREE = {
-    "crates.txt": "one: wire\ntwo: one\nbase_tests: one\n",
+    "crates.txt": "one: wire\ntwo: one\nrules_tests: one\n",
     "crates/one/src/lib.rt": CODE,
     "crates/one/specs/Lib.antt": "pub mod Words\npub mod Below\n",
     "crates/one/specs/Words.antt": WORDS,
@@ -192,7 +192,7 @@ CALLS = {
     "crates/one/src/parts.rt": PARTS,
     "crates/two/src/lib.rt": ABOVE,
     "crates/two/proofs/Told.antt": "told : ℕ\ntold = one.TOLD\n",
-    "crates/base_tests/src/lib.rt": "use one::tried;\n\nfn test() { tried(3); }\n",
+    "crates/rules_tests/src/lib.rt": "use one::tried;\n\nfn test() { tried(3); }\n",
     "docs/PAGE.md": "A user calls `in_the_manual(n)`.\n",
     "README.md": "`inside` is a method of another type.\n",
     "crates/one/README.md": "`in_the_manual` is for users.\n",

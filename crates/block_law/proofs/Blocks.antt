@@ -12,7 +12,7 @@ use Rattle.chain_types.specs.declared.transactions.Input.TheVariants as inputs
 use Rattle.chain_types.specs.declared.transactions.Command.{Command}
 use Rattle.chain_types.specs.declared.transactions.Command.TheVariants as command
 use Rattle.chain_types.specs.declared.transactions.Transaction.{Transaction}
-use Rattle.answer_types.specs.declared.pieces.Item.{Item}
+use Rattle.protocol_spec.specs.declared.pieces.Item.{Item}
 use Rattle.protocol_spec.proofs.ListLemmas.{all_none}
 use Rattle.protocol_spec.proofs.Truth.{map_none, where_false}
 use Rattle.protocol_spec.specs.Chain.Words.{where_true, refused_or}

@@ -11,7 +11,7 @@ use Rattle.chain_types.specs.declared.objects.Content.TheVariants as content
 use Rattle.chain_types.specs.declared.transactions.Transaction.{Transaction}
 use Rattle.chain_types.specs.Equal.{id_eq}
 use Rattle.chain_types.specs.Digests.{transaction_digest}
-use Rattle.answer_types.specs.declared.pieces.Placed.{Placed}
+use Rattle.protocol_spec.specs.declared.pieces.Placed.{Placed}
 use Rattle.protocol_spec.proofs.Equality.{id_same, id_self}
 use Rattle.protocol_spec.specs.Chain.Words.{Each, Has, repeats}
 use Rattle.protocol_spec.specs.Chain.Keys.{fits, money_of, currency_sum, version_of, named_ids}

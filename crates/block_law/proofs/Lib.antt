@@ -14,3 +14,14 @@ pub mod Keeping
 pub mod Places
 pub mod Tracked
 pub mod Written
+pub mod Staying
+pub mod Moving
+pub mod Following
+pub mod Standing
+pub mod Touched
+pub mod ReadingSteps
+pub mod Newest
+pub mod Live
+pub mod LiveMap
+pub mod Tidy
+mod Deferring

@@ -20,11 +20,11 @@ use Rattle.chain_types.specs.declared.transactions.Input.TheVariants as inputs
 use Rattle.chain_types.specs.declared.transactions.Command.{Command}
 use Rattle.chain_types.specs.declared.transactions.Command.TheVariants as command
 use Rattle.chain_types.specs.declared.transactions.Transaction.{Transaction}
-use Rattle.answer_types.specs.declared.pieces.Item.{Item}
-use Rattle.answer_types.specs.declared.pieces.Placed.{Placed}
-use Rattle.answer_types.specs.declared.pieces.Gave.{Gave}
-use Rattle.answer_types.specs.declared.pieces.Gave.TheVariants as gave
-use Rattle.answer_types.specs.declared.pieces.Mode.{Mode}
+use Rattle.protocol_spec.specs.declared.pieces.Item.{Item}
+use Rattle.protocol_spec.specs.declared.pieces.Placed.{Placed}
+use Rattle.protocol_spec.specs.declared.pieces.Gave.{Gave}
+use Rattle.protocol_spec.specs.declared.pieces.Gave.TheVariants as gave
+use Rattle.protocol_spec.specs.declared.pieces.Mode.{Mode}
 use Rattle.protocol_spec.proofs.ListLemmas.{all_none, each_as, has_left, has_right, append_nil, has_map}
 use Rattle.protocol_spec.proofs.Truth.{where_false, map_none}
 use Rattle.protocol_spec.specs.Chain.Words.{Each, Has, first_some, where_true}

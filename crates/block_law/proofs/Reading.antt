@@ -6,7 +6,7 @@ use Rattle.chain_types.specs.declared.objects.Kind.{Kind}
 use Rattle.chain_types.specs.declared.transactions.Argument.{Argument}
 use Rattle.chain_types.specs.declared.transactions.Command.{Command}
 use Rattle.chain_types.specs.declared.transactions.Transaction.{Transaction}
-use Rattle.answer_types.specs.declared.pieces.Item.{Item}
+use Rattle.protocol_spec.specs.declared.pieces.Item.{Item}
 use Rattle.protocol_spec.proofs.ListLemmas.{all_none}
 use Rattle.protocol_spec.proofs.Truth.{where_false, or_false_left}
 use Rattle.protocol_spec.specs.Chain.Words.{Each, where_true}

@@ -16,8 +16,8 @@ use Rattle.chain_types.specs.declared.transactions.Argument.{Argument}
 use Rattle.chain_types.specs.declared.transactions.Command.{Command}
 use Rattle.chain_types.specs.declared.transactions.Transaction.{Transaction}
 use Rattle.chain_types.specs.Equal.{id_eq}
-use Rattle.answer_types.specs.declared.pieces.Item.{Item}
-use Rattle.answer_types.specs.declared.pieces.Placed.{Placed}
+use Rattle.protocol_spec.specs.declared.pieces.Item.{Item}
+use Rattle.protocol_spec.specs.declared.pieces.Placed.{Placed}
 use Rattle.protocol_spec.proofs.ListLemmas.{append_nil, has_map, all_none, each_as, has_right}
 use Rattle.protocol_spec.proofs.Truth.{where_false, equal_numbers}
 use Rattle.protocol_spec.specs.Chain.Words.{Each, Has, numbers_below, first_some, unless_refused}

@@ -18,12 +18,12 @@ use Rattle.chain_types.specs.declared.transactions.Input.TheVariants as inputs
 use Rattle.chain_types.specs.declared.transactions.Command.{Command}
 use Rattle.chain_types.specs.declared.transactions.Command.TheVariants as command
 use Rattle.chain_types.specs.declared.transactions.Transaction.{Transaction}
-use Rattle.answer_types.specs.declared.pieces.Item.{Item}
-use Rattle.answer_types.specs.declared.pieces.Given.{Given}
-use Rattle.answer_types.specs.declared.pieces.Given.TheVariants as given
-use Rattle.answer_types.specs.declared.pieces.Placed.{Placed}
-use Rattle.answer_types.specs.declared.pieces.Gave.{Gave}
-use Rattle.answer_types.specs.declared.pieces.Gave.TheVariants as gave
+use Rattle.protocol_spec.specs.declared.pieces.Item.{Item}
+use Rattle.protocol_spec.specs.declared.pieces.Given.{Given}
+use Rattle.protocol_spec.specs.declared.pieces.Given.TheVariants as given
+use Rattle.protocol_spec.specs.declared.pieces.Placed.{Placed}
+use Rattle.protocol_spec.specs.declared.pieces.Gave.{Gave}
+use Rattle.protocol_spec.specs.declared.pieces.Gave.TheVariants as gave
 use Rattle.protocol_spec.specs.Chain.Words.{Each, first_some}
 use Rattle.protocol_spec.specs.Chain.Keys.{version_of}
 use Rattle.protocol_spec.specs.Block.Natives.{currency_of, amount_of, holding, parameters_of, amount_limit, names_vault, may_be_shared, Site, new_item, no_item, number_at, item_given, item_at, items_given, items_at, gives, owned_by_all, abort_if, other_currency, joined, coin_mint, coin_burn, counter_add, counter_require, vault_new, vault_deposit, vault_withdraw, counter_add_limited, share, natives, gave_at, native_gives}
@@ -436,9 +436,6 @@ module _ (tx : Digest) (version : ℕ) where
       go (Err fault) h e rest = absurd (cc)
 
   -- ---- from the first block, where nothing is new
-
-  old-marked : (made : ℕ) (i : Item) → i.fresh ≡ false → Marked made i
-  old-marked made i old = λ e. absurd (cc)
 
   inputs-lie : (n : ℕ) (is : List Input) (os : List Object) → Every (Lying 0) (input_slots n is os)
   inputs-lie n [] os = tt

@@ -2,7 +2,6 @@
 use Rattle.std.proofs.Common.{inl, inr, refl, ap, sym, subst, ◌∙◌, arith}
 use Rattle.std.specs.Prelude.{◌≡◌, ◌⊎◌, ◌≤◌, ◌<◌, ◌+◌, ℕ, zero, suc, true, false, ◌&&◌, ◌==◌, List, [], ◌∷◌, ◌++◌, map, zip, filter, filter_map, find, slice_get, option_map, Option, Some, None, Result, Ok, Err, nat_lt}
 use Rattle.std.specs.List.{cons_option}
-use Rattle.digest_core.specs.declared.Digest.{Digest}
 use Rattle.chain_types.specs.declared.objects.ObjectId.{ObjectId}
 use Rattle.chain_types.specs.declared.objects.Object.{Object}
 use Rattle.chain_types.specs.declared.objects.Owner.{Owner}
@@ -12,8 +11,8 @@ use Rattle.chain_types.specs.declared.transactions.Input.TheVariants as inputs
 use Rattle.chain_types.specs.declared.transactions.Transaction.{Transaction}
 use Rattle.chain_types.specs.Equal.{digest_eq, id_eq}
 use Rattle.chain_types.specs.Digests.{transaction_digest, digest_of_object, is_object}
-use Rattle.answer_types.specs.declared.pieces.Item.{Item}
-use Rattle.answer_types.specs.declared.pieces.Placed.{Placed}
+use Rattle.protocol_spec.specs.declared.pieces.Item.{Item}
+use Rattle.protocol_spec.specs.declared.pieces.Placed.{Placed}
 use Rattle.protocol_spec.proofs.Equality.{id_same, id_self}
 use Rattle.protocol_spec.specs.Chain.Words.{Has, numbers_below, repeats}
 use Rattle.protocol_spec.specs.Chain.Keys.{objects_of, named_ids, version_of, version_limit, is_owned_by, fits_input, fit_inputs, pays_gas, fits}
@@ -122,20 +121,9 @@ of-input whole n (inputs.Shared id k true ∷ is) (o ∷ os) x from (inl e) = of
 of-input whole n (inputs.Shared id k true ∷ is) (o ∷ os) x from (inr h) = of-more whole (zip (filter is_object is) os) (inputs.Shared id k true, o) x (of-input whole (suc n) is os x (from-next whole n (inputs.Shared id k true) is from) h)
 of-input whole n (inputs.Shared id k false ∷ is) (o ∷ os) x from h = of-more whole (zip (filter is_object is) os) (inputs.Shared id k false, o) x (of-input whole (suc n) is os x (from-next whole n (inputs.Shared id k false) is from) h)
 
--- the input of a written place
-record IsNamedAt (t : Transaction) (objects : List Object) (x : Place × Object) : Type 0 where
-  of : Input
-  among : Has (zip (objects_of t) objects) (of, x.1)
-
 -- ---- what was done
 
 module _ (t : Transaction) (objects : List Object) (fit : fits t objects ≡ true) (b : Block) (done : outcome t (transaction_digest t) objects ≡ Ok b) where
-  abbrev tx : Digest
-  tx = transaction_digest t
-
-  abbrev version : ℕ
-  version = version_of objects
-
   owned-alone : (i : Input) (o : Object) → Has (zip (objects_of t) objects) (i, o) → (fits_input t i o ≡ true → is_owned_by t.sender o.owner ≡ true) → shared_since o.owner ≡ None
   owned-alone i o h owned = owned-not-shared t o o.owner (owned (fit-at t (objects_of t) objects i o (fits-first t objects fit) h))
 

@@ -4,7 +4,7 @@ use Rattle.chain_types.specs.declared.objects.Object.{Object}
 use Rattle.chain_types.specs.declared.objects.Content.TheVariants as content
 use Rattle.chain_types.specs.declared.transactions.Transaction.{Transaction}
 use Rattle.effects_core.specs.declared.effects.Status.TheVariants as status
-use Rattle.answer_types.specs.declared.pieces.Executed.{Executed}
+use Rattle.protocol_spec.specs.declared.pieces.Executed.{Executed}
 use Rattle.protocol_spec.specs.Chain.Keys.{fits, version_of}
 use Rattle.protocol_spec.specs.Chain.Shape.{shape_fault, cost}
 use Rattle.protocol_spec.specs.Block.Block.{Place}

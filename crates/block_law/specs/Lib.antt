@@ -3,3 +3,8 @@ pub mod Money
 pub mod Names
 pub mod Keeping
 pub mod Shared
+pub mod Untouched
+pub mod Kept
+pub mod Orderly
+pub mod Leaving
+pub mod Admitted

@@ -90,8 +90,9 @@ fn collect_sealed(committee: &Committee, members: &[u32], acks: &[Sealed]) -> Co
 }
 
 /// What acknowledgements of one transaction in one epoch make final; members that ascend, are distinct and are known
-/// sealed them (finality of Sui Lutris). Refusals in order: `Short` exactly if their stake is not a quorum, `Differ` with the first
-/// member and the first other whose effects have another digest. Whether the seals are accepted is for the caller to check.
+/// sealed them (finality of Sui Lutris). Refusals in order: `Short` if their stake is not a quorum, `Differ` with the
+/// first member and the first other whose effects have another digest. Whether the seals are accepted is for the caller
+/// to check.
 #[tactic(auto, using(crate::proofs::Acking::first_is))]
 pub fn collect_acks(
     alloc: Global,

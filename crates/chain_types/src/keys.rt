@@ -22,7 +22,7 @@ impl ObjectRef {
 
 impl Input {
     /// The version that the input consumes.
-    pub fn consumed_key(&self) -> Option<ObjectKey>
+    pub(crate) fn consumed_key(&self) -> Option<ObjectKey>
         ensures { result ≡ consumed_key self.now }
     {
         match self {

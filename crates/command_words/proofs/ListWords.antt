@@ -5,7 +5,7 @@ use Rattle.std.specs.List.{slice_split}
 use Rattle.std.proofs.lemmas.Bool.Decides.{nat_tests}
 use Rattle.std.proofs.lemmas.List.{length-take-le, take_more_set}
 use Rattle.schedule_text.specs.Bytes.{each_of, number_in, with_both}
-use Rattle.schedule_text.proofs.Each.{after_front, after_none, each_more}
+use Rattle.schedule_text.proofs.Each.{after_front, each_more}
 use Rattle.command_words.specs.ListWords.{numbers_in, up_to_64}
 
 abbrev pub parts : List ℕ → List (List ℕ)
@@ -17,9 +17,6 @@ front_length row count low = length-take-le count row low
 -- with the numbers of what is left, those so far are the numbers of the word
 abbrev pub ReadsOn : ℕ → ℕ → List ℕ → List ℕ → ℕ → List (List ℕ) → Type 0
 ReadsOn low high word row count left = after_front (take count row) (each_of (number_in low high) left) ≡ each_of (number_in low high) (parts word)
-
-pub none_read : (low high : ℕ) (word row : List ℕ) → ReadsOn low high word row 0 (parts word)
-none_read low high word row = after_none (each_of (number_in low high) (parts word))
 
 -- one more
 pub one_read : (low high : ℕ) (word row : List ℕ) (count : ℕ) (text part : List ℕ) (after : List (List ℕ)) (number : ℕ) → ReadsOn low high word row count (parts text) → parts text ≡ part ∷ after

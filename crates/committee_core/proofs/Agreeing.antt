@@ -12,16 +12,16 @@ use Rattle.world_spec.specs.World as worlds
 use Rattle.world_spec.specs.World.{World, member_in}
 use Rattle.world_spec.specs.Run.{world_after}
 use Rattle.world_spec.specs.Assumptions.{IsHonestRun}
-use Rattle.scene_spec.specs.Terms.{terms_of}
-use Rattle.scene_spec.specs.Seats.{Seated}
-use Rattle.scene_spec.specs.Posts.{Post}
-use Rattle.scene_spec.specs.Scene.{Scene}
-use Rattle.scene_spec.specs.Worlds.{Shows, posts_from}
+use Rattle.world_spec.specs.Terms.{terms_of}
+use Rattle.world_spec.specs.Seats.{Seated}
+use Rattle.world_spec.specs.Posts.{Post}
+use Rattle.world_spec.specs.Scene.{Scene}
+use Rattle.world_spec.specs.SceneWorlds.{Shows, posts_from}
 use Rattle.world_core.specs.Crews.{honest_at}
 use Rattle.world_core.specs.Looks.{checkpoint_at}
 use Rattle.light_check.specs.declared.chain.Link.{Link}
 use Rattle.light_check.specs.Certified.{Accepting, IsCertified}
-use Rattle.blame_law.specs.Checked.{CertifiedAgreesInSchedules, IsHonestChain}
+use Rattle.headline_law.specs.Checked.{CertifiedAgreesInSchedules, IsHonestChain}
 use Rattle.committee_core.specs.Agreement.{AllAgree, Differs, IsFirstDifference, IsLowest, NoneDiffers}
 
 -- ---- lists

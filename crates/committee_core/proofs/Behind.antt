@@ -17,8 +17,8 @@ use Rattle.world_spec.specs.World.{World, new_world}
 use Rattle.world_spec.specs.Step.{happens}
 use Rattle.world_spec.specs.Report.{lines_of}
 use Rattle.world_spec.specs.Run.{journal, report, report_from, report_of, run, world_after}
-use Rattle.scene_spec.specs.Scene.{Scene}
-use Rattle.scene_spec.specs.Worlds.{AreKeepable, Restarts, Shows, journal_in}
+use Rattle.world_spec.specs.Scene.{Scene}
+use Rattle.world_spec.specs.SceneWorlds.{AreKeepable, Restarts, Shows, journal_in}
 use Rattle.world_core.specs.Restarts.{StaysDown}
 use Rattle.committee_core.specs.Journals.{AreAtLeast, AreEmpty, IsTold, KeepsFronts, KeepsRun, ReadsBack, ReadsNone, StartsAlong}
 use Rattle.committee_core.specs.Laws.{SceneLaws}

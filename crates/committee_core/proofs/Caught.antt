@@ -4,7 +4,7 @@ use Rattle.std.specs.Prelude.{OnOk, IfOk, codes, decimal, option_map, slice_get}
 use Rattle.std.specs.Io.KnownBytes.{Appends}
 use Rattle.std.proofs.KnownBytes.{Appends-nil, Keeps-refl}
 use Rattle.wire_bcs.specs.declared.seq.OutOfMemory.{OutOfMemory}
-use Rattle.outside.specs.Lists.{Journals, KeepsJournals}
+use Rattle.outside.specs.Lists.{Journals}
 use Rattle.outside.specs.Streams.{ReadsText}
 use Rattle.chain_types.specs.declared.objects.Object.{Object}
 use Rattle.schedule_text.specs.declared.words.Schedule.{Schedule}
@@ -14,18 +14,17 @@ use Rattle.world_spec.specs.Setting.{Setting, Trust}
 use Rattle.world_spec.specs.World as worlds
 use Rattle.world_spec.specs.World.{World, honest_seat, member_in}
 use Rattle.world_spec.specs.Run.{world_after}
-use Rattle.scene_spec.specs.Posts.{seat_at}
-use Rattle.scene_spec.specs.Scene.{Scene}
-use Rattle.scene_spec.specs.Seats.{Seated}
-use Rattle.scene_spec.specs.Terms.{terms_of}
-use Rattle.scene_spec.specs.Worlds.{Shows, posts_from}
+use Rattle.world_spec.specs.Posts.{seat_at}
+use Rattle.world_spec.specs.Scene.{Scene}
+use Rattle.world_spec.specs.Seats.{Seated}
+use Rattle.world_spec.specs.Terms.{terms_of}
+use Rattle.world_spec.specs.SceneWorlds.{Shows, posts_from}
 use Rattle.validator_core.specs.Opened.{opening_objects}
 use Rattle.world_core.specs.Looks.{transaction_of}
 use Rattle.follower_core.specs.declared.catching.CatchUpRefusal.{CatchUpRefusal}
-use Rattle.follower_core.specs.declared.catching.CatchUpRefusal.TheVariants as stopped
 use Rattle.follower_core.specs.Catching.{Known, before_epoch, caught_up}
 use Rattle.follower_core.specs.Following.{State, applied_in, opened}
-use Rattle.blame_law.specs.Followed.{made_as}
+use Rattle.headline_law.specs.Followed.{made_as}
 use Rattle.committee_core.specs.declared.verdict.Verdict.{Verdict}
 use Rattle.committee_core.specs.declared.verdict.Verdict.TheVariants as verdict
 use Rattle.committee_core.specs.Follow.{Asked, ComesTo, Finds, FrontOf, IsEqual, IsVerdict, IsVerdictBehind, IsVerdictFrom, LeavesObjects, FollowsBad, FollowsFront, asked_at, asked_in, asked_up, follower_of, state_in, unrefused, unrun, verdict_words}
@@ -42,12 +41,6 @@ use Rattle.committee_core.proofs.Through.{through}
 module _ (known : Known) (opening : List Object) (m : Member) where
   comes : (Far : Member → Result State CatchUpRefusal → Type 0) → Far m (follower_of known opening m) → ComesTo known opening (asked_up m) Far
   comes Far far = record { honest = refl; member = m; stands = refl; far = far }
-
-  pub stuck_at : (number place : ℕ) → follower_of known opening m ≡ Err (stopped.Stuck number place) → IsVerdict known opening (asked_up m) (verdict.Stuck number place)
-  stuck_at number place is = comes (λ n r. r ≡ Err (stopped.Stuck number place)) is
-
-  pub differs_at : (number place : ℕ) → follower_of known opening m ≡ Err (stopped.Differs number place) → IsVerdict known opening (asked_up m) (verdict.Differs number place)
-  differs_at number place is = comes (λ n r. r ≡ Err (stopped.Differs number place)) is
 
   pub taken_all : (s : State) (v : Verdict) → follower_of known opening m ≡ Ok s → applied_in s.tip ≡ length (before_epoch m.epoch (built m)) → IsVerdictFrom m s v → IsVerdict known opening (asked_up m) v
   taken_all s verdict.NoHonest is count from = absurd from
@@ -67,12 +60,6 @@ module _ (known : Known) (opening handed : List Object) (m : Member) (epoch : �
   pub all_taken : (s : State) (r : Result Verdict OutOfMemory) → caught_up known (opened handed) (before_epoch epoch (built m)) ≡ Ok s → applied_in s.tip ≡ length (before_epoch epoch (built m)) → IfOk r (IsVerdictFrom m s) → IfOk r (IsVerdict known opening (asked_up m))
   all_taken s (Ok v) is count from = taken_all known opening m s v (follower_is (Ok s) is) (count ∙ ap (λ (e : ℕ). length (before_epoch e (built m))) now) from
   all_taken s (Err e) is count from = tt
-
-  pub stuck_here : (number place : ℕ) → caught_up known (opened handed) (before_epoch epoch (built m)) ≡ Err (stopped.Stuck number place) → IsVerdict known opening (asked_up m) (verdict.Stuck number place)
-  stuck_here number place is = stuck_at known opening m number place (follower_is (Err (stopped.Stuck number place)) is)
-
-  pub differs_here : (number place : ℕ) → caught_up known (opened handed) (before_epoch epoch (built m)) ≡ Err (stopped.Differs number place) → IsVerdict known opening (asked_up m) (verdict.Differs number place)
-  differs_here number place is = differs_at known opening m number place (follower_is (Err (stopped.Differs number place)) is)
 
 -- ---- after a run
 
@@ -112,11 +99,6 @@ found text m kept kept' sc v runs sees = record {
     true-of : ReadsBack kept runs.schedule.events → IsVerdictBehind runs.schedule m v
     true-of back = shown (setting_in program_trust runs.schedule) (world_after (setting_in program_trust runs.schedule) runs.schedule.events) m v program_trust sc (runs.shows back) sees
 
-pub found_if : (text : List ℕ) (m : ℕ) (kept kept' : Option Journals) (sc : Scene) (r : Result Verdict OutOfMemory) → RunsSilently program_trust text kept kept' sc
-    → IfOk r (IsVerdict (transaction_of sc.known) sc.opening (asked_at (slice_get sc.posts m))) → IfOk r (Finds text m kept kept')
-found_if text m kept kept' sc (Ok v) runs sees = found text m kept kept' sc v runs sees
-found_if text m kept kept' sc (Err e) runs sees = tt
-
 -- ---- what was cut
 
 pub untold : (trust : Trust) (s : Schedule) (kept kept' : Option Journals) → kept ≡ None → KeepsFronts trust s kept kept'
@@ -130,9 +112,6 @@ front_by text m held kept kept' (Err r) is cut = unrefused r is cut.1 ([], refus
 
 pub front_of : {R : Type 0} (text : List ℕ) (m : ℕ) (held : Option (List ℕ)) (kept kept' : Option Journals) → TextCut program_trust (schedule_of text) None None kept kept' → FrontOf text m held held kept kept' R
 front_of text m held kept kept' cut = front_by text m held kept kept' (schedule_of text) refl cut
-
-pub kept_refused : (text : List ℕ) (r : Refused) (kept kept' : Option Journals) → schedule_of text ≡ Err r → TextCut program_trust (schedule_of text) None None kept kept' → KeepsJournals kept kept'
-kept_refused text r kept kept' is cut = let here : TextCut program_trust (Err r) None None kept kept' = subst (λ (x : Result Schedule Refused). TextCut program_trust x None None kept kept') is cut in here.1
 
 -- a run that ended, of which nothing is said
 pub ran_cut : (text : List ℕ) (kept kept' : Option Journals) (sc : Scene) → RunsSilently program_trust text kept kept' sc → TextCut program_trust (schedule_of text) None None kept kept'

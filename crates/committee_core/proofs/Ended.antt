@@ -8,8 +8,8 @@ use Rattle.schedule_text.specs.Schedule.{Refused, longest_text, schedule_of}
 use Rattle.world_spec.specs.Setting.{Trust}
 use Rattle.world_spec.specs.Keyed.{program_secret}
 use Rattle.world_spec.specs.Run.{world_after}
-use Rattle.scene_spec.specs.Worlds.{AreKeepable, Restarts}
-use Rattle.text_law.specs.HonestTexts.{keyed_setting}
+use Rattle.world_spec.specs.SceneWorlds.{AreKeepable, Restarts}
+use Rattle.run_law.specs.HonestTexts.{keyed_setting}
 use Rattle.headline_law.proofs.Moments.{moment_is_promised}
 use Rattle.committee_core.specs.Headline.{HoldsAlong, IsBad, IsCut, IsRefused, IsWhole, program_trust}
 use Rattle.committee_core.specs.Journals.{StartsWhereRead}

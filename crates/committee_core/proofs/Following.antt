@@ -5,23 +5,23 @@ use Rattle.protocol_spec.proofs.ListLemmas.{set_length}
 use Rattle.protocol_spec.specs.Chain.Certificates.{Rules}
 use Rattle.journal_core.specs.declared.records.Record.{Record}
 use Rattle.journal_core.specs.Records as journals
-use Rattle.scene_spec.specs.Terms.{rules_for}
+use Rattle.world_spec.specs.Terms.{rules_for}
 use Rattle.report_text.specs.declared.lines.Line.{Line}
 use Rattle.report_text.specs.declared.lines.Line.TheVariants as line
 use Rattle.report_text.specs.declared.lines.RestartText.TheVariants as restart_text
 use Rattle.schedule_text.specs.declared.words.Event.{Event}
 use Rattle.schedule_text.specs.declared.words.Event.TheVariants as event
-use Rattle.scene_spec.specs.Starts.{started}
+use Rattle.world_spec.specs.Starts.{started}
 use Rattle.world_spec.specs.Setting.{Setting, Trust}
 use Rattle.world_spec.specs.World as worlds
 use Rattle.world_spec.specs.World.{World}
 use Rattle.world_spec.specs.Step.{happens, happens_over}
 use Rattle.world_spec.specs.Report.{lines_of}
 use Rattle.world_spec.specs.Run.{records_of, run}
-use Rattle.scene_spec.specs.Posts.{Post, with_all}
-use Rattle.scene_spec.specs.Scene.{Scene, rules_in}
-use Rattle.scene_spec.specs.Steps.{AddsLine, MayAddLine, records_left, work_of}
-use Rattle.scene_spec.specs.Worlds.{AreKeepable, Restarts, Shows, Tells, TellsFront, is_restart, journal_in, posts_from}
+use Rattle.world_spec.specs.Posts.{Post, with_all}
+use Rattle.world_spec.specs.Scene.{Scene, rules_in}
+use Rattle.world_spec.specs.SceneSteps.{AddsLine, MayAddLine, records_left, work_of}
+use Rattle.world_spec.specs.SceneWorlds.{AreKeepable, Restarts, Shows, Tells, TellsFront, is_restart, journal_in, posts_from}
 use Rattle.world_core.specs.Restarts.{RestartsAs, StaysDown}
 use Rattle.committee_core.specs.Laws.{SceneLaws}
 use Rattle.committee_core.specs.Journals.{AreAtLeast, IsTold, ReadsNone}

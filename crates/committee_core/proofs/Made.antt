@@ -11,15 +11,15 @@ use Rattle.schedule_text.specs.declared.words.Event.{Event}
 use Rattle.schedule_text.specs.declared.words.Event.TheVariants as event
 use Rattle.schedule_text.specs.declared.words.Schedule.{Schedule}
 use Rattle.schedule_text.specs.Schedule.{Refused, schedule_of}
-use Rattle.text_law.specs.Laws.{GeneratedTextIsASchedule}
-use Rattle.text_law.specs.Made.{certified, items, late, ending, made, ordered, rest, tx_event, vote_events, send_events}
+use Rattle.run_law.specs.TextLaws.{GeneratedTextIsASchedule}
+use Rattle.run_law.specs.Made.{certified, items, late, ending, made, ordered, rest, tx_event, vote_events, send_events}
 use Rattle.protocol_spec.specs.Chain.Words.{Each}
 use Rattle.protocol_spec.specs.Member.Member.{Member}
-use Rattle.scene_spec.specs.Posts.{seat_at}
-use Rattle.scene_spec.specs.Scene.{Scene}
-use Rattle.scene_spec.specs.Seats as scene_seats
-use Rattle.scene_spec.specs.Terms.{terms_of}
-use Rattle.scene_spec.specs.Worlds.{Shows, is_restart, posts_from}
+use Rattle.world_spec.specs.Posts.{seat_at}
+use Rattle.world_spec.specs.Scene.{Scene}
+use Rattle.world_spec.specs.Seats as scene_seats
+use Rattle.world_spec.specs.Terms.{terms_of}
+use Rattle.world_spec.specs.SceneWorlds.{Shows, is_restart, posts_from}
 use Rattle.world_spec.specs.Setting.{Setting, Trust, setting_of, honest_of}
 use Rattle.world_spec.specs.World.{Seat, World, member_at, member_in, new_world, state_of}
 use Rattle.world_spec.specs.Run.{sums_of, world_after}
@@ -166,12 +166,6 @@ same-schedule number r s law is = cc
 read-made : GeneratedTextIsASchedule → (number : ℕ) → number ≤ 10000 → (text : List ℕ) → text ≡ make_text_of number 4 → (s : Schedule) → schedule_of text ≡ Ok s → s ≡ made number 4
 read-made law number low text same s is =
     same-schedule number (schedule_of text) s (ap schedule_of same ∙ law number 4 low (omega arith) (omega arith)) is
-
-no-ok : (r : Result Schedule Refused) (s : Schedule) (f : Refused) → r ≡ Ok s → r ≡ Err f → ⊥
-no-ok r s f one other = absurd (cc)
-
-pub not_refused : GeneratedTextIsASchedule → (number : ℕ) → number ≤ 10000 → (text : List ℕ) → text ≡ make_text_of number 4 → (f : Refused) → schedule_of text ≡ Err f → ⊥
-not_refused law number low text same f is = no-ok (schedule_of text) (made number 4) f (ap schedule_of same ∙ law number 4 low (omega arith) (omega arith)) is
 
 quiet-at : (front back : List Event) (e : Event) → Each IsQuiet (front ++ e ∷ back) → IsQuiet e
 quiet-at [] back e quiet = quiet.0

@@ -14,8 +14,8 @@ use Rattle.schedule_text.specs.declared.statement.Statement.TheVariants as state
 use Rattle.schedule_text.specs.Agrees.{no_lines}
 use Rattle.schedule_text.specs.Known.{Check, add_line, also, event_check, roles, setup_check, setup_kind_check}
 use Rattle.schedule_text.specs.Schedule.{schedule_of}
-use Rattle.text_law.specs.Sayable.{IsSayable, IsStatement, added, makes_member, then_read}
-use Rattle.text_law.proofs.SaidWhole.{text_said, same, check_said, after_said}
+use Rattle.run_law.specs.Sayable.{IsSayable, IsStatement, added, makes_member, then_read}
+use Rattle.run_law.proofs.SaidWhole.{text_said, same, check_said, after_said}
 use Rattle.world_spec.specs.Setting.{stakes_of}
 use Rattle.headline_law.proofs.Rolls.{same-count}
 
@@ -63,9 +63,6 @@ count-push (setup.Writers n ∷ lines) x = count-push lines x
 
 abbrev IsFew : Schedule → Type 0
 IsFew s = length (stakes_of s.setup) ≤ 64
-
-abbrev read_ok : Schedule → Result Schedule Cause
-read_ok s = Ok s
 
 last_said : (a b : Check) → also a b ≡ Ok tt → b ≡ Ok tt
 last_said (Ok u) b h = h

@@ -2,7 +2,7 @@
 use Rattle.std.proofs.Common.{◌≡◌, ◌⊎◌, inl, inr, ℕ, List, Option, Some, None, refl, arith}
 use Rattle.std.proofs.KnownBytes.{Keeps-refl}
 use Rattle.outside.specs.Lists.{Journals}
-use Rattle.text_law.specs.Laws.{GeneratedTextIsASchedule}
+use Rattle.run_law.specs.TextLaws.{GeneratedTextIsASchedule}
 use Rattle.command_words.specs.declared.words.Command.{Command}
 use Rattle.command_words.specs.declared.words.Command.TheVariants as command
 use Rattle.digest_core.specs.declared.Digest.{Digest}

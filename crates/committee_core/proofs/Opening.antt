@@ -10,9 +10,9 @@ use Rattle.quorum_core.specs.declared.committee.CommitteeRefusal.TheVariants as 
 use Rattle.quorum_core.specs.Committee.{committee_of}
 use Rattle.schedule_text.specs.declared.words.Setup.{Setup}
 use Rattle.world_spec.specs.Setting.{Trust, honest_of, setting_of, stakes_of}
-use Rattle.scene_spec.specs.Terms.{Terms}
-use Rattle.scene_spec.specs.Posts.{new_posts}
-use Rattle.scene_spec.specs.Scene.{Scene, new_scene}
+use Rattle.world_spec.specs.Terms.{Terms}
+use Rattle.world_spec.specs.Posts.{new_posts}
+use Rattle.world_spec.specs.Scene.{Scene, new_scene}
 use Rattle.committee_core.specs.Journals.{AreAtLeast, AreEmpty}
 use Rattle.world_core.proofs.Sound.{as_many}
 

@@ -11,18 +11,18 @@ use Rattle.schedule_text.specs.declared.words.ScheduleRefusal.{ScheduleRefusal}
 use Rattle.schedule_text.specs.declared.words.ScheduleRefusal.TheVariants as schedule_refusal
 use Rattle.schedule_text.specs.Schedule.{Refused, RefusesWith, longest_text, schedule_of}
 use Rattle.chain_types.specs.declared.objects.Object.{Object}
-use Rattle.answer_types.specs.declared.refusals.StartRefusal.{StartRefusal}
-use Rattle.answer_types.specs.declared.refusals.StartRefusal.TheVariants as no_start
+use Rattle.protocol_spec.specs.declared.refusals.StartRefusal.{StartRefusal}
+use Rattle.protocol_spec.specs.declared.refusals.StartRefusal.TheVariants as no_start
 use Rattle.protocol_spec.specs.Member.Member.{Member, live_objects}
 use Rattle.world_spec.specs.Setting.{Trust, setting_of}
 use Rattle.world_spec.specs.World.{honest_seat, is_honest, new_seat, new_world}
 use Rattle.world_spec.specs.Report.{shown}
-use Rattle.scene_spec.specs.Known.{setting_with, world_with}
-use Rattle.scene_spec.specs.Posts.{new_posts, seat_at}
-use Rattle.scene_spec.specs.Scene.{Scene, new_scene, rules_in}
-use Rattle.scene_spec.specs.Starts.{started}
-use Rattle.scene_spec.specs.Terms.{Terms}
-use Rattle.scene_spec.proofs.LineWorlds.{shown_same}
+use Rattle.world_spec.specs.Known.{setting_with, world_with}
+use Rattle.world_spec.specs.Posts.{new_posts, seat_at}
+use Rattle.world_spec.specs.Scene.{Scene, new_scene, rules_in}
+use Rattle.world_spec.specs.Starts.{started}
+use Rattle.world_spec.specs.Terms.{Terms}
+use Rattle.world_spec.proofs.LineWorlds.{shown_same}
 use Rattle.world_core.specs.Crews.{honest_at}
 use Rattle.world_core.specs.declared.replay.Replayed.{Replayed}
 use Rattle.world_core.specs.Replays.{IsReplayed}

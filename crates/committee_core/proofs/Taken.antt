@@ -5,10 +5,10 @@ use Rattle.report_text.specs.declared.lines.Line.{Line}
 use Rattle.schedule_text.specs.declared.words.Event.{Event}
 use Rattle.schedule_text.specs.declared.words.Event.TheVariants as event
 use Rattle.world_spec.specs.Setting.{Trust}
-use Rattle.scene_spec.specs.Posts.{Post}
-use Rattle.scene_spec.specs.Scene.{Scene, rules_in}
-use Rattle.scene_spec.specs.Steps.{MayAddLine, lines_in, records_left, steps_to, work_of}
-use Rattle.scene_spec.specs.Worlds.{AreKeepable, is_restart}
+use Rattle.world_spec.specs.Posts.{Post}
+use Rattle.world_spec.specs.Scene.{Scene, rules_in}
+use Rattle.world_spec.specs.SceneSteps.{MayAddLine, lines_in, records_left, steps_to, work_of}
+use Rattle.world_spec.specs.SceneWorlds.{AreKeepable, is_restart}
 use Rattle.world_core.specs.Kept.{LeavesAs}
 use Rattle.world_core.specs.Restarts.{Accepting, MayRestart, RestartsAs, StaysDown}
 use Rattle.world_core.specs.Stays.{Stays}

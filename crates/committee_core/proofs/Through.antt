@@ -22,9 +22,9 @@ use Rattle.validator_core.specs.Opened.{opening_objects}
 use Rattle.follower_core.specs.declared.catching.CatchUpRefusal.{CatchUpRefusal}
 use Rattle.follower_core.specs.declared.catching.CatchUpRefusal.TheVariants as stopped
 use Rattle.follower_core.specs.Following.{State}
-use Rattle.blame_law.specs.Followed.{AllMade, made_as}
-use Rattle.blame_law.specs.Followed as law
-use Rattle.blame_law.proofs.Catching.{come-through-in-schedules}
+use Rattle.headline_law.specs.Followed.{AllMade, made_as}
+use Rattle.headline_law.specs.Followed as law
+use Rattle.headline_law.proofs.Catching.{come-through-in-schedules}
 use Rattle.committee_core.specs.declared.verdict.Verdict.{Verdict}
 use Rattle.committee_core.specs.declared.verdict.Verdict.TheVariants as verdict
 use Rattle.committee_core.specs.Follow.{ComesTo, IsThrough, IsVerdictBehind, LeavesObjects, asked_in, follower_of, state_in}

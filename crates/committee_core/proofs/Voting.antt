@@ -1,24 +1,21 @@
 -- What is asked for at the desk, which member is behind it, and what is said of its history.
-use Rattle.std.proofs.Common.{◌≡◌, ◌⊎◌, inl, inr, ℕ, zero, suc, ◌+◌, Bool, true, false, List, [], ◌∷◌, ◌++◌, length, map, take, replicate, Option, Some, None, option_map, Result, Ok, Err, refl, sym, ap, ◌∙◌, subst, slice_get, add-one}
+use Rattle.std.proofs.Common.{◌≡◌, ◌⊎◌, inl, inr, ℕ, zero, suc, ◌+◌, Bool, true, false, List, [], ◌∷◌, ◌++◌, length, map, take, replicate, Option, Some, option_map, Result, Ok, Err, refl, sym, ap, ◌∙◌, subst, slice_get, add-one}
 use Rattle.std.specs.Prelude.{IfOk}
 use Rattle.std.specs.List.{flat_map, list_all}
 use Rattle.std.specs.Io.KnownBytes.{Appends}
 use Rattle.wire_bcs.specs.Place.{Stop}
-use Rattle.wire_bcs.specs.Whole.{whole}
 use Rattle.outside.specs.Lists.{Journals, journal_of}
 use Rattle.outside.specs.Streams.{AppendsFront, ReadsText}
 use Rattle.chain_types.specs.declared.objects.Object.{Object}
 use Rattle.chain_types.specs.declared.transactions.SignedTx.{SignedTx}
-use Rattle.chain_types.specs.Digests.{transaction_digest}
 use Rattle.chain_types.specs.Transactions as transactions
-use Rattle.answer_types.specs.declared.refusals.StartRefusal.TheVariants as no_start
+use Rattle.protocol_spec.specs.declared.refusals.StartRefusal.TheVariants as no_start
 use Rattle.schedule_text.specs.declared.words.Event.{Event}
 use Rattle.schedule_text.specs.declared.words.Event.TheVariants as event
 use Rattle.schedule_text.specs.declared.words.Schedule.{Schedule}
 use Rattle.schedule_text.specs.Schedule.{Refused, longest_text, schedule_of}
 use Rattle.protocol_spec.proofs.Truth.{and_true}
-use Rattle.protocol_spec.specs.Chain.Certificates.{Rules, read_as, read_signed}
-use Rattle.protocol_spec.specs.Member.Checkpoints.{zero_digest}
+use Rattle.protocol_spec.specs.Chain.Certificates.{Rules, read_signed}
 use Rattle.protocol_spec.specs.Member.Member.{fresh}
 use Rattle.world_spec.specs.Setting.{Setting, Trust}
 use Rattle.world_spec.specs.World as worlds
@@ -27,14 +24,13 @@ use Rattle.world_spec.specs.Making.{made_over}
 use Rattle.world_spec.specs.Names.{tx_name}
 use Rattle.world_spec.specs.Run.{run, world_after}
 use Rattle.world_spec.specs.Step.{happens, happens_over}
-use Rattle.scene_spec.specs.Known.{Known, names_of}
-use Rattle.scene_spec.specs.Posts.{seat_at}
-use Rattle.scene_spec.specs.Scene.{Scene}
-use Rattle.scene_spec.specs.Seats.{Seated}
-use Rattle.scene_spec.specs.Starts.{started}
-use Rattle.scene_spec.specs.Terms.{Terms}
-use Rattle.scene_spec.specs.Worlds.{Shows, posts_from}
-use Rattle.scene_spec.proofs.LineWorlds.{vote_same}
+use Rattle.world_spec.specs.Known.{Known, names_of}
+use Rattle.world_spec.specs.Posts.{seat_at}
+use Rattle.world_spec.specs.Scene.{Scene}
+use Rattle.world_spec.specs.Starts.{started}
+use Rattle.world_spec.specs.Terms.{Terms}
+use Rattle.world_spec.specs.SceneWorlds.{Shows, posts_from}
+use Rattle.world_spec.proofs.LineWorlds.{vote_same}
 use Rattle.report_text.specs.declared.lines.Line.{Line}
 use Rattle.report_text.specs.declared.lines.Line.TheVariants as line
 use Rattle.world_core.specs.Crews.{honest_post}
@@ -46,7 +42,7 @@ use Rattle.vote_desk.specs.declared.entry.DeskEntry.{DeskEntry}
 use Rattle.vote_desk.specs.Callers.{AreAnswered, asked_in}
 use Rattle.vote_desk.specs.Dealt.{AreMadeBy}
 use Rattle.vote_desk.specs.Histories.{IsLegal}
-use Rattle.vote_desk.specs.Votes.{Accepts, FollowsUnder, standing}
+use Rattle.vote_desk.specs.Votes.{FollowsUnder, standing}
 use Rattle.committee_core.specs.declared.desk.Said.{Said}
 use Rattle.committee_core.specs.Desk.{AreVotes, EndsAs, EndsBy, IsDeskCut, IsSaid, IsSaidCut, SaysOfDesk, are_txs, call_line, call_line_by, call_text, desk_head, desk_text, desk_world, digest_read, is_tx, none_honest_text, only_tx_text, signed_bytes, text_by}
 use Rattle.committee_core.specs.Headline.{program_trust}
@@ -65,24 +61,6 @@ pub more_requests : (txs : List Made) (n : ℕ) (x : SignedTx) (requests : List 
 more_requests txs n x requests bytes at spelled so_far =
     ap (λ (b : List ℕ). requests ++ b ∷ []) spelled ∙ ap (λ (l : List (List ℕ)). l ++ transactions.signed.spell x ∷ []) so_far
     ∙ sym (more-taken txs n x at) ∙ ap (λ (k : ℕ). map signed_bytes (take k txs)) (sym (add-one n))
-
--- there are no more
-all-taken : (txs : List Made) (n : ℕ) → option_map (λ (t : Made). t.signed) (slice_get txs n) ≡ None → take n txs ≡ txs
-all-taken [] zero none_at = refl
-all-taken [] (suc n) none_at = refl
-all-taken (t ∷ txs) zero none_at = absurd (cc)
-all-taken (t ∷ txs) (suc n) none_at = ap (λ (l : List Made). t ∷ l) (all-taken txs n none_at)
-
-pub all_requests : (txs : List Made) (n : ℕ) (requests : List (List ℕ)) → option_map (λ (t : Made). t.signed) (slice_get txs n) ≡ None → requests ≡ map signed_bytes (take n txs) → requests ≡ map signed_bytes txs
-all_requests txs n requests none_at so_far = so_far ∙ ap (map signed_bytes) (all-taken txs n none_at)
-
-pub read_ok : (bytes : List ℕ) (x : SignedTx) → whole transactions.signed bytes ≡ Ok x → digest_read (read_signed bytes) ≡ transaction_digest x.tx
-unfolding read_signed
-read_ok bytes x is = ap (λ r. digest_read (read_as r)) is
-
-pub read_none : (bytes : List ℕ) (s : Stop) → whole transactions.signed bytes ≡ Err s → digest_read (read_signed bytes) ≡ zero_digest
-unfolding read_signed
-read_none bytes s is = ap (λ r. digest_read (read_as r)) is
 
 -- ---- which member is behind the desk
 
@@ -108,11 +86,6 @@ never_bad r opening lists place is bad =
     let empty = first-of lists bad.kept is bad.is in
     let starts : started r opening [] ≡ Err (no_start.BadRecord place bad.why) = ap (started r opening) (sym empty) ∙ bad.starts in
     absurd (cc)
-
-pub legal_at : (member opened : Seated) (accepts : Accepts) (keeper lists : Journals) (r : Result (List DeskEntry) (Unit {0})) → member ≡ opened → keeper ≡ lists → IfOk r (IsLegal FollowsUnder (standing member accepts 0 (Some keeper))) → IfOk r (IsLegal FollowsUnder (standing opened accepts 0 (Some lists)))
-legal_at member opened accepts keeper lists r is kept legal =
-    subst (λ (v : Seated). IfOk r (IsLegal FollowsUnder (standing v accepts 0 (Some lists)))) is
-    (subst (λ (l : Journals). IfOk r (IsLegal FollowsUnder (standing member accepts 0 (Some l)))) kept legal)
 
 -- ---- which members are honest
 
@@ -201,9 +174,6 @@ ends_dishonest trust callers s isnt = subst (λ (b : Bool). EndsBy true b trust 
 
 pub ends_other : (trust : Trust) (callers : ℕ) (s : Schedule) (honest : Bool) → are_txs s ≡ false → EndsBy (are_txs s) honest trust callers s 8 only_tx_text
 ends_other trust callers s honest isnt = subst (λ (b : Bool). EndsBy b honest trust callers s 8 only_tx_text) (sym isnt) (refl, refl)
-
-pub ends_txs : (trust : Trust) (callers : ℕ) (s : Schedule) (honest : Bool) (status : ℕ) (text : List ℕ) → are_txs s ≡ true → EndsBy true honest trust callers s status text → EndsBy (are_txs s) honest trust callers s status text
-ends_txs trust callers s honest status text are ends = subst (λ (b : Bool). EndsBy b honest trust callers s status text) (sym are) ends
 
 -- a status is one of three
 ends-by : (txs honest : Bool) (trust : Trust) (callers : ℕ) (s : Schedule) (status : ℕ) (text : List ℕ) → EndsBy txs honest trust callers s status text → (status ≡ 0) ⊎ (status ≡ 3) ⊎ (status ≡ 8)

@@ -10,7 +10,7 @@ use Rattle.schedule_text.specs.Schedule.{Refused, longest_text, schedule_of}
 use Rattle.world_spec.specs.Setting.{Trust}
 use Rattle.world_spec.specs.Keyed.{keyed, program_secret}
 use Rattle.world_spec.specs.Run.{journal}
-use Rattle.scene_spec.specs.Scene.{Scene}
+use Rattle.world_spec.specs.Scene.{Scene}
 use Rattle.world_core.specs.Trusts.{trust_by}
 use Rattle.committee_core.specs.Headline.{program_trust}
 use Rattle.committee_core.specs.Journals.{AreEmpty, KeepsFronts, KeepsRun}

@@ -6,8 +6,8 @@ use Rattle.outside.specs.Lists.{Journals}
 use Rattle.report_text.specs.declared.lines.Line.{Line}
 use Rattle.schedule_text.specs.declared.words.Event.{Event}
 use Rattle.world_spec.specs.Setting.{Trust}
-use Rattle.scene_spec.specs.Scene.{Scene, rules_in}
-use Rattle.scene_spec.specs.Steps.{MayAddLine, records_left, work_of}
+use Rattle.world_spec.specs.Scene.{Scene, rules_in}
+use Rattle.world_spec.specs.SceneSteps.{MayAddLine, records_left, work_of}
 use Rattle.committee_core.specs.Report.{lines_text}
 use Rattle.committee_core.specs.Steps.{IsBadRecord, IsCutAt, untaken, unwritten, unsaid, IsTaken, Passes, ReadsBad}
 use Rattle.outside.specs.Streams.{AppendsFront}

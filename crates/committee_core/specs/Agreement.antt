@@ -5,7 +5,7 @@ use Rattle.light_check.specs.declared.chain.Link.{Link}
 use Rattle.light_check.specs.declared.chain.ChainRefusal.TheVariants as refused
 use Rattle.light_check.specs.Certified.{Accepting, IsCertified}
 use Rattle.light_check.specs.Causes.{first_bad}
-use Rattle.scene_spec.specs.Posts.{Post}
+use Rattle.world_spec.specs.Posts.{Post}
 use Rattle.world_core.specs.Looks.{checkpoint_at}
 use Rattle.committee_core.specs.declared.agreement.Agreement.{Agreement}
 use Rattle.committee_core.specs.declared.agreement.Agreement.TheVariants as agreement

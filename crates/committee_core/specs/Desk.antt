@@ -25,9 +25,9 @@ use Rattle.world_spec.specs.World.{Made, World, is_honest, new_world}
 use Rattle.world_spec.specs.Names.{tx_name}
 use Rattle.world_spec.specs.Report.{vote_answered}
 use Rattle.world_spec.specs.Run.{world_after}
-use Rattle.scene_spec.specs.Known.{Known}
-use Rattle.scene_spec.specs.Posts.{seat_at}
-use Rattle.scene_spec.specs.Terms.{terms_of}
+use Rattle.world_spec.specs.Known.{Known}
+use Rattle.world_spec.specs.Posts.{seat_at}
+use Rattle.world_spec.specs.Terms.{terms_of}
 use Rattle.world_lines.specs.Answers.{vote_as}
 use Rattle.world_core.specs.Looks.{vote_line_by}
 use Rattle.vote_desk.specs.declared.entry.DeskEntry.{DeskEntry}

@@ -15,15 +15,15 @@ use Rattle.world_spec.specs.World as worlds
 use Rattle.world_spec.specs.World.{World, is_honest, member_in}
 use Rattle.world_spec.specs.Run.{world_after}
 use Rattle.world_spec.specs.Assumptions.{IsHonestRun}
-use Rattle.scene_spec.specs.Posts.{Post}
-use Rattle.scene_spec.specs.Seats.{Seated}
+use Rattle.world_spec.specs.Posts.{Post}
+use Rattle.world_spec.specs.Seats.{Seated}
 use Rattle.validator_core.specs.Opened.{opening_objects}
 use Rattle.world_core.specs.Crews.{honest_at, honest_post}
 use Rattle.follower_core.specs.declared.catching.CatchUpRefusal.{CatchUpRefusal}
 use Rattle.follower_core.specs.declared.catching.CatchUpRefusal.TheVariants as stopped
 use Rattle.follower_core.specs.Catching.{Known, before_epoch, caught_up}
 use Rattle.follower_core.specs.Following.{State, applied_in, opened}
-use Rattle.blame_law.specs.Followed.{AllMade, made_as}
+use Rattle.headline_law.specs.Followed.{AllMade, made_as}
 use Rattle.committee_core.specs.declared.verdict.Verdict.{Verdict}
 use Rattle.committee_core.specs.declared.verdict.Verdict.TheVariants as verdict
 use Rattle.committee_core.specs.Headline.{HoldsAlong, IsRefused, program_trust}

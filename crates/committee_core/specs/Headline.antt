@@ -1,5 +1,5 @@
 -- What the program promises of the bytes that it reads and writes, and of the records that it keeps.
-use Rattle.std.specs.Prelude.{◌≡◌, ◌⊎◌, ℕ, List, [], ◌∷◌, ◌++◌, Option, Ok, Err, codes}
+use Rattle.std.specs.Prelude.{◌≡◌, ◌⊎◌, ℕ, List, ◌++◌, Option, Ok, Err}
 use Rattle.std.specs.Io.KnownBytes.{Appends, Consumes, IsAtEnd, Keeps}
 use Rattle.outside.specs.Lists.{Journals, KeepsJournals}
 use Rattle.schedule_text.specs.declared.words.Event.{Event}
@@ -11,10 +11,6 @@ use Rattle.headline_law.specs.Headline.{IsPromised}
 use Rattle.committee_core.specs.Report.{refusal_text, setting_in}
 use Rattle.outside.specs.Streams.{ReadsText}
 use Rattle.committee_core.specs.Ways.{MeetsBadRecord, RunsWhole, TextCut}
-
--- the words are exactly `run`
-abbrev pub IsRun : List (List ℕ) → Type 0
-IsRun words = words ≡ codes "run" ∷ []
 
 -- the seals of the program
 unfoldable pub program_trust : Trust

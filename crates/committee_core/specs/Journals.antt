@@ -7,7 +7,7 @@ use Rattle.schedule_text.specs.Schedule.{schedule_of}
 use Rattle.protocol_spec.specs.Chain.Words.{Each}
 use Rattle.world_spec.specs.Setting.{Setting, Trust}
 use Rattle.world_spec.specs.Run.{journal, world_after}
-use Rattle.scene_spec.specs.Worlds.{AreKeepable, IsFront, Restarts, is_restart}
+use Rattle.world_spec.specs.SceneWorlds.{AreKeepable, IsFront, Restarts, is_restart}
 use Rattle.committee_core.specs.Report.{setting_in}
 
 -- lists are observable

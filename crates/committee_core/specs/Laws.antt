@@ -7,15 +7,15 @@ use Rattle.report_text.specs.declared.lines.RestartText.TheVariants as restart_t
 use Rattle.schedule_text.specs.declared.words.Setup.{Setup}
 use Rattle.schedule_text.specs.declared.words.Event.{Event}
 use Rattle.schedule_text.specs.declared.words.Event.TheVariants as event
-use Rattle.scene_spec.specs.Starts.{started}
+use Rattle.world_spec.specs.Starts.{started}
 use Rattle.world_spec.specs.Setting.{Setting, Trust, setting_of}
 use Rattle.world_spec.specs.World.{World, new_world}
 use Rattle.world_spec.specs.Step.{happens}
 use Rattle.world_spec.specs.Report.{lines_of}
-use Rattle.scene_spec.specs.Posts.{started_at}
-use Rattle.scene_spec.specs.Scene.{Scene, new_scene, rules_in}
-use Rattle.scene_spec.specs.Steps.{AddsLine, MayAddLine, lines_in, records_left, steps_to, work_of}
-use Rattle.scene_spec.specs.Worlds.{HasRoom, Restarts, Shows, Tells, TellsFront, is_restart, journal_in}
+use Rattle.world_spec.specs.Posts.{started_at}
+use Rattle.world_spec.specs.Scene.{Scene, new_scene, rules_in}
+use Rattle.world_spec.specs.SceneSteps.{AddsLine, MayAddLine, lines_in, records_left, steps_to, work_of}
+use Rattle.world_spec.specs.SceneWorlds.{HasRoom, Restarts, Shows, Tells, TellsFront, is_restart, journal_in}
 use Rattle.committee_core.specs.Journals.{StartsWhereRead}
 
 pub record SceneLaws (trust : Trust) : Type 0 where

@@ -10,7 +10,7 @@ use Rattle.schedule_make.specs.Make.{make_text_of}
 use Rattle.schedule_text.specs.declared.words.Schedule.{Schedule}
 use Rattle.schedule_text.specs.Schedule.{schedule_of}
 use Rattle.protocol_spec.specs.Member.Member.{Member}
-use Rattle.scene_spec.specs.Scene.{Scene}
+use Rattle.world_spec.specs.Scene.{Scene}
 use Rattle.world_spec.specs.World.{member_at}
 use Rattle.world_spec.specs.Run.{Sums, sums_of, world_after}
 use Rattle.world_core.specs.declared.sums.Sums as sums_type

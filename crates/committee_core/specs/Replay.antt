@@ -9,13 +9,13 @@ use Rattle.report_text.specs.declared.lines.Line.TheVariants as line
 use Rattle.report_text.specs.declared.lines.RestartText.TheVariants as restart_text
 use Rattle.schedule_text.specs.declared.words.Schedule.{Schedule}
 use Rattle.schedule_text.specs.Schedule.{Refused, longest_text, schedule_of}
-use Rattle.answer_types.specs.declared.refusals.StartRefusal.{StartRefusal}
-use Rattle.answer_types.specs.declared.refusals.StartRefusal.TheVariants as no_start
+use Rattle.protocol_spec.specs.declared.refusals.StartRefusal.{StartRefusal}
+use Rattle.protocol_spec.specs.declared.refusals.StartRefusal.TheVariants as no_start
 use Rattle.protocol_spec.specs.Member.Member.{Member, live_objects}
 use Rattle.world_spec.specs.Setting.{Trust}
 use Rattle.world_spec.specs.World.{is_honest, new_world}
 use Rattle.world_spec.specs.Report.{shown}
-use Rattle.scene_spec.specs.Starts.{started}
+use Rattle.world_spec.specs.Starts.{started}
 use Rattle.world_core.specs.SeatRestarts.{IsJournal}
 use Rattle.committee_core.specs.Headline.{program_trust}
 use Rattle.committee_core.specs.Outside.{Outside}

@@ -6,9 +6,9 @@ use Rattle.report_text.specs.declared.lines.Line.{Line}
 use Rattle.schedule_text.specs.declared.words.Event.{Event}
 use Rattle.schedule_text.specs.declared.words.Event.TheVariants as event
 use Rattle.world_spec.specs.Setting.{Trust}
-use Rattle.scene_spec.specs.Scene.{Scene, rules_in}
-use Rattle.scene_spec.specs.Steps.{AddsLine, MayAddLine, lines_in, records_left, steps_to, work_of}
-use Rattle.scene_spec.specs.Worlds.{AreKeepable, is_restart}
+use Rattle.world_spec.specs.Scene.{Scene, rules_in}
+use Rattle.world_spec.specs.SceneSteps.{AddsLine, MayAddLine, lines_in, records_left, steps_to, work_of}
+use Rattle.world_spec.specs.SceneWorlds.{AreKeepable, is_restart}
 use Rattle.world_core.specs.Restarts.{RestartsAs, StaysDown}
 use Rattle.committee_core.specs.Report.{lines_text}
 use Rattle.outside.specs.Streams.{AppendsFront}

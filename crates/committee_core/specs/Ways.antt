@@ -9,12 +9,12 @@ use Rattle.schedule_text.specs.declared.words.Event.{Event}
 use Rattle.schedule_text.specs.declared.words.Event.TheVariants as event
 use Rattle.schedule_text.specs.declared.words.Schedule.{Schedule}
 use Rattle.schedule_text.specs.Schedule.{Refused, schedule_of}
-use Rattle.answer_types.specs.declared.refusals.StartRefusal.TheVariants as no_start
+use Rattle.protocol_spec.specs.declared.refusals.StartRefusal.TheVariants as no_start
 use Rattle.world_spec.specs.Setting.{Setting, Trust}
 use Rattle.world_spec.specs.Run.{report, world_after}
-use Rattle.scene_spec.specs.Scene.{Scene}
-use Rattle.scene_spec.specs.Starts.{started}
-use Rattle.scene_spec.specs.Worlds.{Shows}
+use Rattle.world_spec.specs.Scene.{Scene}
+use Rattle.world_spec.specs.Starts.{started}
+use Rattle.world_spec.specs.SceneWorlds.{Shows}
 use Rattle.committee_core.specs.Journals.{KeepsFronts, KeepsRun, ReadsBack}
 use Rattle.committee_core.specs.Report.{lines_text, refusal_text, report_text, setting_in}
 use Rattle.outside.specs.Streams.{AppendsFront}

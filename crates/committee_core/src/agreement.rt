@@ -4,16 +4,16 @@ ghost use Rattle.std.specs.Prelude.{◌≡◌, ◌↔◌, ◌<◌, ℕ, List, If
 ghost use Rattle.light_check.specs.Chains as codecs;
 ghost use Rattle.schedule_text.specs.declared.words.Event.{Event};
 ghost use Rattle.schedule_text.specs.declared.words.Setup.{Setup};
-ghost use Rattle.scene_spec.specs.Worlds.{Shows};
+ghost use Rattle.world_spec.specs.SceneWorlds.{Shows};
 ghost use Rattle.world_spec.specs.Setting.{Trust, setting_of};
 ghost use Rattle.world_spec.specs.Run.{world_after};
 ghost use Rattle.world_spec.specs.Assumptions.{IsHonestRun};
-ghost use Rattle.blame_law.specs.Checked.{IsHonestChain};
+ghost use Rattle.headline_law.specs.Checked.{IsHonestChain};
 ghost use Rattle.committee_core.specs.Agreement.{AllAgree, Differs, IsAnswered, IsFirstDifference, IsLowest, NoneDiffers};
 ghost use Rattle.committee_core.specs.declared.agreement.Agreement.TheVariants as agreement;
 
-use blame_law::certified_agrees_in_schedules;
 use checkpoint_core::{Checkpoint, Item};
+use headline_law::certified_agrees_in_schedules;
 use light_check::{Chain, ChainRefusal, Link, check_chain};
 use quorum_core::Sealer;
 use std::alloc::Global;

@@ -15,8 +15,8 @@ ghost use Rattle.validator_core.specs.Calls.{vote_ended};
 ghost use Rattle.validator_core.specs.Seats.{answered};
 ghost use Rattle.world_spec.specs.Setting.{stakes_of};
 ghost use Rattle.world_spec.specs.World.{is_honest, new_world};
-ghost use Rattle.scene_spec.specs.Posts.{seat_at};
-ghost use Rattle.scene_spec.specs.Worlds.{Shows};
+ghost use Rattle.world_spec.specs.Posts.{seat_at};
+ghost use Rattle.world_spec.specs.SceneWorlds.{Shows};
 ghost use Rattle.vote_desk.specs.Callers.{AreAnswered, asked_in};
 ghost use Rattle.vote_desk.specs.Dealt.{AreMadeBy};
 ghost use Rattle.vote_desk.specs.Histories.{IsLegal};
@@ -48,7 +48,7 @@ use validator_core::Validator;
 use vote_desk::{DeskEntry, SureKeeper, answers_to_callers};
 use wire_bcs::{OutOfMemory, Seq, Unread};
 use world_core::{Replayed, RestartFault, World};
-use world_names::MakesSeals;
+use world_lines::MakesSeals;
 
 /// How the command ends if nothing fails: its status, and the bytes that it writes.
 #[derive(Drop)]

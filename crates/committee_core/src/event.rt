@@ -5,8 +5,8 @@ ghost use Rattle.std.specs.Io.KnownBytes.{Appends};
 ghost use Rattle.outside.specs.Causes.{Rose};
 ghost use Rattle.outside.specs.declared.faults.OutFault.TheVariants as out_fault;
 ghost use Rattle.report_text.specs.Text.{text_of};
-ghost use Rattle.scene_spec.specs.Scene.{rules_in};
-ghost use Rattle.scene_spec.specs.Steps.{MayAddLine, records_left, work_of};
+ghost use Rattle.world_spec.specs.Scene.{rules_in};
+ghost use Rattle.world_spec.specs.SceneSteps.{MayAddLine, records_left, work_of};
 ghost use Rattle.world_core.specs.Trusts.{trust_by};
 ghost use Rattle.world_core.specs.declared.world.WorldFault.TheVariants as fault;
 ghost use Rattle.committee_core.specs.Report.{lines_text};
@@ -23,7 +23,7 @@ use std::alloc::Global;
 use std::thread::Threads;
 use wire_bcs::{OutOfMemory, Seq};
 use world_core::{World, WorldFault};
-use world_names::MakesSeals;
+use world_lines::MakesSeals;
 
 /// The bytes of lines.
 pub(crate) fn print_lines(alloc: Global, lines: &Seq<Line>) -> Result<Seq<u8>, OutOfMemory>

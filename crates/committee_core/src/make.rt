@@ -17,10 +17,10 @@ use crate::event::write_line;
 use crate::silent::{Unrun, world_behind};
 use outside::{Keeper, OutFault, Sink};
 use report_text::Line;
+use run_law::generated_text_is_a_schedule;
 use schedule_make::make_text;
 use std::alloc::Global;
 use std::thread::Threads;
-use text_law::generated_text_is_a_schedule;
 use wire_bcs::OutOfMemory;
 use world_core::{Sums, World};
 

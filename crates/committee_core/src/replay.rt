@@ -10,7 +10,7 @@ ghost use Rattle.report_text.specs.declared.lines.Line.TheVariants as report_lin
 ghost use Rattle.report_text.specs.declared.lines.RestartText.TheVariants as restart_text;
 ghost use Rattle.report_text.specs.Text.{text_of};
 ghost use Rattle.schedule_text.specs.Schedule.{schedule_of};
-ghost use Rattle.scene_spec.specs.Scene.{new_scene};
+ghost use Rattle.world_spec.specs.Scene.{new_scene};
 ghost use Rattle.world_spec.specs.Setting.{stakes_of};
 ghost use Rattle.world_spec.specs.World.{is_honest, new_world};
 ghost use Rattle.world_core.specs.Texts.{show_by};
@@ -32,7 +32,7 @@ use schedule_text::{Schedule, ScheduleRefusal, read_schedule};
 use std::alloc::Global;
 use wire_bcs::{OutOfMemory, Seq};
 use world_core::{Replayed, RestartFault, World};
-use world_names::MakesSeals;
+use world_lines::MakesSeals;
 
 /// Prints `restart M: records N`.
 fn print_restart(member: u32, count: u64, text: &mut Seq<u8>) -> Result<(), OutOfMemory>

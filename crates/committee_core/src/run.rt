@@ -5,7 +5,7 @@ ghost use Rattle.std.specs.Io.KnownBytes.{Appends};
 ghost use Rattle.outside.specs.Causes.{Rose};
 ghost use Rattle.outside.specs.Lists.{HasMembers};
 ghost use Rattle.quorum_core.specs.Committee.{committee_of};
-ghost use Rattle.scene_spec.specs.Scene.{new_scene};
+ghost use Rattle.world_spec.specs.Scene.{new_scene};
 ghost use Rattle.world_spec.specs.Setting.{stakes_of};
 ghost use Rattle.world_core.specs.Trusts.{trust_by};
 ghost use Rattle.committee_core.specs.Journals.{AreAtLeast, AreEmpty, StartsAlong};
@@ -22,7 +22,7 @@ use std::alloc::Global;
 use std::thread::Threads;
 use wire_bcs::OutOfMemory;
 use world_core::{World, WorldRefusal};
-use world_names::MakesSeals;
+use world_lines::MakesSeals;
 
 /// Runs the events in order, from the world of the set-up on.
 fn run_events<R: Threads + Sync, S: MakesSeals, K: Sink, D: Keeper>(

@@ -20,7 +20,7 @@ use schedule_text::{ScheduleRefusal, read_schedule};
 use std::alloc::Global;
 use std::thread::Threads;
 use world_core::World;
-use world_names::MakesSeals;
+use world_lines::MakesSeals;
 
 /// The sink of a run without a report: takes every piece whole, and keeps nothing.
 #[derive(Drop)]

@@ -26,7 +26,7 @@ use report_text::Line;
 use schedule_text::{ScheduleRefusal, read_schedule};
 use std::alloc::Global;
 use std::thread::Threads;
-use world_names::MakesSeals;
+use world_lines::MakesSeals;
 
 /// The most bytes of a schedule.
 pub const LONGEST_TEXT: u32 = 16_777_216;

@@ -14,10 +14,10 @@ use crate::replay::replay;
 use crate::report::run;
 use command_words::{Command, command_of, is_parsed};
 use outside::{Keeper, Sink, Source};
+use run_law::generated_text_is_a_schedule;
 use std::alloc::Global;
 use std::sync::Wait;
 use std::thread::Threads;
-use text_law::generated_text_is_a_schedule;
 
 /// Does what the command says. Answers the status.
 fn obey<R: Threads + Wait + Sync, S: Source, K: Sink, D: Keeper>(

@@ -94,10 +94,6 @@ module _ {V : Type 0} where
       ap (λ o. length (option_to_list o ++ values_at a ps)) f.1 ∙ ap (λ n. suc n) r
 
 module _ {J V O : Type 0} (output : J → List V → O) (values : J → List V → List V) (es : List Edge) where
-  pub length-known_after : (known : List (Option V)) (t : ℕ) (js : List J) → length (known_after output values es known t js) ≡ length known
-  length-known_after known t [] = refl
-  length-known_after known t (j ∷ js) = length-known_after (known_next output values es known t j) (t + 1) js ∙ length-put_at known (places_from es t) (values j (values_at known (places_to es t)))
-
   -- an edge from an earlier task keeps its value
   known_stays : (known : List (Option V)) (t : ℕ) (js : List J) (e : ℕ) → source es e < t → value_of (known_after output values es known t js) e ≡ value_of known e
   known_stays known t [] e lt = refl

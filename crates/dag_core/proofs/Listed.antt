@@ -1,6 +1,6 @@
 -- What `Plan::new` finds: that every edge goes forward if none is bad, and rows of places, none at the start and one more filed.
-use Rattle.std.proofs.Common.{◌≡◌, ◌≢◌, ℕ, ◌+◌, ◌<◌, zero, suc, Bool, true, false, cond, not, ◌&&◌, eqb, ltb, List, [], ◌∷◌, ◌++◌, length, get_or, set, take, replicate, sym, refl, ap, ◌∙◌, subst, eq-eqb, ne_eqb, length-set, get_or-set_same, get_or-set_other, arith}
-use Rattle.std.proofs.lemmas.List.{take_more, length-take-le, length-replicate, get_or-replicate}
+use Rattle.std.proofs.Common.{◌≡◌, ◌≢◌, ℕ, ◌+◌, ◌<◌, zero, suc, Bool, true, false, cond, not, ◌&&◌, eqb, ltb, List, [], ◌∷◌, ◌++◌, length, get_or, set, take, sym, refl, ap, ◌∙◌, subst, eq-eqb, ne_eqb, length-set, get_or-set_same, get_or-set_other, arith}
+use Rattle.std.proofs.lemmas.List.{take_more, length-take-le}
 use mathlib.Core.Logic.{dite}
 use native.Mathlib.Decide.{ℕ_discrete}
 use Rattle.std.specs.Prelude.{Some, None}
@@ -32,9 +32,6 @@ forward_all tasks es none place lt =
     forward_one (source es place) (target es place) tasks (none_pass bad 0 es record { from = 0; to = 0 } (sym (position_from-zero bad es) ∙ none) place lt)
 
 module _ {X : Type 0} (key : X → ℕ) where
-  pub filed_none : (items : List X) (count : ℕ) → IsFiled key (take 0 items) count (replicate count [])
-  filed_none items count = record { counted = length-replicate count []; row = λ number lt. get_or-replicate count number [] [] lt }
-
   pub filed_more : (items : List X) (count : ℕ) (rows : List (List ℕ)) (k : ℕ) (x d : X) → k < length items → get_or items k d ≡ x → key x < count
       → IsFiled key (take k items) count rows → IsFiled key (take (k + 1) items) count (set rows (key x) (get_or rows (key x) [] ++ k ∷ []))
   filed_more items count rows k x d lt read inside filed = record {

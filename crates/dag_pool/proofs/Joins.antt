@@ -1,5 +1,5 @@
 -- What two groups of workers leave, together.
-use Rattle.std.proofs.Common.{◌≡◌, ℕ, ◌+◌, Bool, false, cond, eqb, List, [], ◌∷◌, ◌++◌, Some, sym, refl, ap, subst, arith}
+use Rattle.std.proofs.Common.{◌≡◌, ℕ, ◌+◌, Bool, false, cond, eqb, List, [], ◌∷◌, ◌++◌, Some, refl, arith}
 use mathlib.Core.Logic.{dite}
 use native.Mathlib.Decide.{ℕ_discrete, dec_lt}
 use Rattle.std.specs.Prelude.{slice_get}
@@ -9,8 +9,7 @@ use Rattle.dag_core.specs.Places.{times}
 use Rattle.dag_core.specs.Values.{source, target}
 use Rattle.dag_core.proofs.Places.{times-append}
 use Rattle.steal_board.specs.declared.view.View.{View}
-use Rattle.steal_board.specs.declared.view.Paper.{Paper}
-use Rattle.steal_board.specs.Views.{joined, seat_view}
+use Rattle.steal_board.specs.Views.{joined}
 use Rattle.dag_pool.specs.Outputs.{times_in}
 use Rattle.dag_pool.specs.Work.{IsSound, IsOwed, IsLeft, dealt_to}
 
@@ -48,15 +47,3 @@ module _ {V O : Type 0} (es : List Edge) (n workers : ℕ) (os : List O) where
     heard = λ f t r. let h = o.heard f t r in omega (arith, h);
     dealt = λ f t lt none above below. let h = o.dealt f t lt none (omega arith) in omega (arith, h);
   }
-
-  -- a seat with which nothing was done
-  pub sound_fresh : (v : View V) (paper : Paper V) (share : ℕ) (ps : List (ℕ × O)) → v ≡ seat_view paper share → ps ≡ [] → IsSound es n os v ps
-  sound_fresh v paper share ps e none = subst (λ u. IsSound es n os u ps) (sym e) (subst (IsSound es n os (seat_view paper share)) (sym none) (record {
-    clean = record { paid = λ x lt. refl; taken = λ x lt. refl };
-    brings = record { right = λ k d lt. absurd (omega arith); all = λ t. omega arith };
-    once = λ t. omega arith;
-    inside = λ t le. refl;
-  }))
-
-pub fresh_ready : {V : Type 0} (v : View V) (paper : Paper V) (share : ℕ) → v ≡ seat_view paper share → (t : ℕ) → times t v.ready ≡ 0
-fresh_ready v paper share e t = ap (λ u. times t u.ready) e

@@ -1,5 +1,5 @@
 -- What a worker owes, from one step to the next.
-use Rattle.std.proofs.Common.{◌≡◌, ℕ, ◌+◌, ◌<◌, ◌≤◌, Bool, true, false, true≢false, List, [], ◌∷◌, ◌++◌, sym, refl, ap, ◌∙◌, subst, inl, inr, ⊎_elim, ◌⊎◌, arith}
+use Rattle.std.proofs.Common.{◌≡◌, ℕ, ◌+◌, ◌<◌, ◌≤◌, Bool, false, List, [], ◌∷◌, ◌++◌, sym, refl, ap, ◌∙◌, subst, inl, inr, ⊎_elim, ◌⊎◌, arith}
 use mathlib.Core.Logic.{dite}
 use native.Mathlib.Decide.{ℕ_discrete}
 use Rattle.dag_core.specs.declared.plan.Edge.{Edge}
@@ -58,24 +58,12 @@ module _ {V : Type 0} (es : List Edge) (n workers k : ℕ) where
       (λ f t r. inl r)
       o.valid)
 
-  -- if memory was refused, nothing is owed but that what is due is due rightly
-  pub owed_starved : (v : View V) (due due' : List ℕ) (starved : Bool) → ((t : ℕ) → times t due' ≤ times t due) → IsOwed es n workers k v due starved → IsOwed es n workers k v due' true
-  owed_starved v due due' starved less o = record { heard = λ f. absurd (true≢false f); dealt = λ f. absurd (true≢false f); valid = λ t d. o.valid t (let l = less t in omega (arith, d)) }
-
-  -- a due task is never found waiting
-  pub owed_waits : (v : View V) (task : ℕ) (due : List ℕ) (starved : Bool) → IsOwed es n workers k v (task ∷ due) starved → 0 < count_in es task → times task v.ready ≡ 0 → ⊥
-  owed_waits v task due starved o some none = let h = times_here task task due refl in let r = (o.valid task (omega (arith, h))).1 some in omega (arith, r, none)
-
   pub owed_inside : (v : View V) (task : ℕ) (due : List ℕ) (starved : Bool) → IsOwed es n workers k v (task ∷ due) starved → task < n
   owed_inside v task due starved o = let h = times_here task task due refl in (o.valid task (omega (arith, h))).0
 
   -- the inputs of a task were taken
   pub owed_took : (v w : View V) (edges due : List ℕ) (starved : Bool) → Took v edges w → IsOwed es n workers k v due starved → IsOwed es n workers k w due starved
   owed_took v w edges due starved took o = subst (λ u. IsOwed es n workers k u due starved) (sym took.same) (record { heard = o.heard; dealt = o.dealt; valid = o.valid })
-
-  -- an edge was paid, and no task became ready
-  pub owed_paid : (v w : View V) (edge : ℕ) (due : List ℕ) (starved : Bool) → w ≡ with_paid v edge → IsOwed es n workers k v due starved → IsOwed es n workers k w due starved
-  owed_paid v w edge due starved e o = subst (λ u. IsOwed es n workers k u due starved) (sym e) (record { heard = o.heard; dealt = o.dealt; valid = o.valid })
 
   -- an edge was paid, a task became ready, and it is due unless memory was refused
   pub owed_ready : (v w : View V) (edge task : ℕ) (due due' : List ℕ) (starved starved' : Bool) → w ≡ with_ready (with_paid v edge) task → task < n

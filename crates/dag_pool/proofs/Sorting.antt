@@ -125,9 +125,6 @@ module _ {O : Type 0} where
   else (y ∷ ys) (suc i) zero x ne = refl
   else (y ∷ ys) (suc i) (suc k) x ne = else ys i k x (λ e. ne (ap suc e))
 
-  pub empties_none : (all : List (Option O)) → Empties all all 0 []
-  empties_none all = record { size = refl; len = refl; left = λ k h. refl; same = λ k o e. cc }
-
   pub empties_more : (all slots : List (Option O)) (place : ℕ) (outputs : List O) (o : O) → Empties all slots place outputs → slice_get all place ≡ Some (Some o)
       → Empties all (set slots place None) (place + 1) (outputs ++ o ∷ [])
   empties_more all slots place outputs o e at = record {

@@ -1,5 +1,5 @@
 -- The closing pass.
-use Rattle.std.proofs.Common.{◌≡◌, ℕ, ◌+◌, ◌-◌, ◌<◌, ◌≤◌, Bool, false, List, [], ◌∷◌, length, refl, ap, ◌∙◌, subst, mod-lt, get_or, All, arith}
+use Rattle.std.proofs.Common.{◌≡◌, ℕ, ◌+◌, ◌-◌, ◌<◌, ◌≤◌, Bool, false, List, [], ◌∷◌, length, refl, ap, ◌∙◌, mod-lt, get_or, All, arith}
 use Rattle.std.proofs.lemmas.Option.{slice_get_within}
 use Rattle.dag_pool.specs.Outputs.{AreOutputs}
 use mathlib.Core.Logic.{dite}
@@ -33,13 +33,6 @@ module _ {V : Type 0} (es : List Edge) (n : ℕ) where
   all_more v w task e all t lt = let m = ap (times t) e ∙ times-append t v.mine (task ∷ []) in dite (ℕ_discrete task t)
       (λ q. let h = times_here t task [] q in omega (arith, m, h))
       (λ ne. let old = all t (omega arith) in omega (arith, m, old))
-
-  pub all_gone : (v : View V) (task : ℕ) → 0 < times task v.mine → HasAll task v → HasAll (task + 1) (with_gone v task)
-  all_gone v task here all t lt = dite (ℕ_discrete task t) (λ q. subst (λ k. 0 < times k v.mine) q here) (λ ne. all t (omega arith))
-
-  -- if nothing was left, the pass claims nothing
-  pub none_mine : (v : View V) (task : ℕ) → task < n → times task v.mine ≡ 0 → (times task v.gone ≡ 0) × (0 < count_in es task → 0 < times task v.ready) → NoneLeft es n v → ⊥
-  none_mine v task lt fresh told none = let h = none task lt told.1 in let z = told.0 in omega (arith, h, z, fresh)
 
   pub none_gone : (v : View V) (task : ℕ) → NoneLeft es n v → NoneLeft es n (with_gone v task)
   none_gone v task none t lt told = let h = none t lt told in let a = times-append t v.gone (task ∷ []) in omega (arith, h, a)

@@ -71,9 +71,6 @@ module _ {V : Type 0} where
     counts = λ y. let a = took.counts y in let b = times-append y w.taken (p ∷ []) in let c = times_more places i p y lt at in omega (arith, a, b, c);
   })
 
-  pub paid_none : (v : View V) (places : List ℕ) → Paid v (take 0 places) v
-  paid_none v places = record { same = refl; counts = λ e. let z : times e (take 0 places) ≡ 0 = refl in omega (arith, z); ready = λ t. omega arith }
-
   pub paid_more : (v w x : View V) (places : List ℕ) (i p : ℕ) → i < length places → get_or places i 0 ≡ p → Paid v (take i places) w → Paid w (p ∷ []) x → Paid v (take (i + 1) places) x
   paid_more v w x places i p lt at a b = record {
     same = b.same ∙ ap (λ (u : View V). record u { paid = x.paid; ready = x.ready }) a.same;

@@ -40,7 +40,7 @@ pub struct PoolRun<J: Job> {
 /// A worker takes from its own deck, and if that is empty steals once round from the others' decks. If it got nothing
 /// it claims once more each task that was dealt to it or that its own payments made ready, and it retires when each of these
 /// is claimed. What the workers left is executed on the caller: nothing, unless a worker was refused memory.
-/// The gate is notified of each execution, before and after. After `OutOfMemory` the seat is gone.
+/// The gate is notified of each execution, before and after, which no clause says. After `OutOfMemory` the seat is gone.
 pub fn run_plan<R: Threads + Sync, J: Job + Send + Sync, G: Gate + Sync>(
     rt: &R,
     alloc: Global,

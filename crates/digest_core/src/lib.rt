@@ -6,11 +6,14 @@
 #![tactic(auto)]
 
 ghost use Rattle.std.specs.Prelude.{◌≡◌, ◌∷◌, ◌++◌, [], List, ℕ};
+ghost use Rattle.std.proofs.Common.{ap};
+ghost use Rattle.std.proofs.lemmas.Slice.Eq.{bytes_eq-Decides};
 ghost use Rattle.sha2.specs.Sha256.{sha256};
 ghost use Rattle.digest_core.specs.Tagged.{Hashes, tagged_digest, created_id_of, genesis_id_of, address_of_name};
 
 use sha2::{Digest as _, Sha256};
-use std::fmt;
+use std::hash::Hash;
+use std::{fmt, hash};
 
 /// The tag of a transaction's digest.
 pub const TAG_TRANSACTION: u8 = 0x54;
@@ -21,17 +24,28 @@ pub const TAG_EFFECTS: u8 = 0x45;
 /// The tag of a checkpoint's digest.
 pub const TAG_CHECKPOINT: u8 = 0x43;
 /// The tag of the id of an object that a transaction created.
-pub const TAG_CREATED: u8 = 0x49;
+pub(crate) const TAG_CREATED: u8 = 0x49;
 /// The tag of the id of an object that the set-up made.
-pub const TAG_GENESIS: u8 = 0x47;
+pub(crate) const TAG_GENESIS: u8 = 0x47;
 /// The tag of the address of a named user.
-pub const TAG_ADDRESS: u8 = 0x41;
+pub(crate) const TAG_ADDRESS: u8 = 0x41;
 /// The tag of a seal.
 pub const TAG_SEAL: u8 = 0x53;
 
 /// A SHA-256 digest. Digests are ordered as their bytes are, the first byte first.
-#[derive(Clone, Copy, Debug, PartialEq, Eq, PartialOrd, Ord, Hash)]
+#[derive(Clone, Copy, Debug, PartialEq, Eq, PartialOrd, Ord)]
 pub struct Digest(pub [u8; 32]);
+
+/// All bytes are one write, since maps by digests are looked up all the time: what is derived makes a write of each byte.
+impl Hash for Digest {
+    ghost hash_input = { λ d. d.0 ∷ [] };
+
+    ghost respects_eq = { λ x y same. ap (λ (bytes : List ℕ). bytes ∷ []) ((bytes_eq-Decides x.0 y.0).0 same) };
+
+    fn hash<H: hash::Hasher>(&self, state: &mut H) {
+        state.write(self.0.as_slice());
+    }
+}
 
 /// In 64 hexadecimal digits.
 impl fmt::Display for Digest {

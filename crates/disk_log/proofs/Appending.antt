@@ -8,7 +8,7 @@ use Rattle.disk_log.specs.declared.moment.Span.{Span}
 use Rattle.disk_log.specs.declared.refusals.LogRefusal.{LogRefusal}
 use Rattle.disk_log.specs.declared.refusals.LogRefusal.TheVariants as log
 use Rattle.disk_log.specs.Disk.{History, IsImage, IfTold, LeavesOnly}
-use Rattle.disk_log.specs.Log.{Rows, row_of, with_span, bytes_at, IsInside, IsListed, IsReady, IsAtGate, IsAdded, IsRecorded, Recorded, HasOldOrNew}
+use Rattle.disk_log.specs.Log.{Rows, row_of, with_span, bytes_at, IsInside, IsListed, IsReady, IsAdded, IsRecorded, Recorded, HasOldOrNew}
 use Rattle.disk_log.specs.Records.{Record, Whole, counted, records_to, head_of}
 use Rattle.disk_log.specs.Keeping.{IsKept, IsGood, IsAppended, Appends, counts_behind}
 use Rattle.disk_log.proofs.Counting.{Whole-push}
@@ -17,10 +17,6 @@ use Rattle.disk_log.proofs.Listing.{listed-more, inside-with, get_or-map}
 use Rattle.disk_log.proofs.Moments.{stays}
 use Rattle.disk_log.proofs.Opening.{ready-leaves}
 use Rattle.disk_log.proofs.Walking.{records-of, bytes-behind}
-
-pub at-gate : (told : Option History) (end : ℕ) (rows : Rows) → IfTold told (IsKept end rows) → IfTold told (λ h. IsReady h end) → IfTold told (IsAtGate end)
-at-gate None end rows kept ready = tt
-at-gate (Some h) end rows kept ready = record { whole = record { whole = kept.whole; inside = kept.inside }; ready = ready }
 
 -- nothing was written: a crash leaves what it left
 module _ (h : History) (end : ℕ) (rows : Rows) (kept : IsKept end rows h) (ready : IsReady h end) where

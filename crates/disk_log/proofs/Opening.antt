@@ -2,7 +2,6 @@
 use Rattle.std.proofs.Common.{◌≡◌, ◌⊎◌, inl, inr, ℕ, ◌+◌, ◌<◌, ◌≤◌, Bool, true, false, List, [], ◌∷◌, ◌++◌, length, take, drop, get_or, refl, sym, ◌∙◌, ap, subst, arith, Option, Some, None, Result, Ok, Err}
 use Rattle.std.proofs.lemmas.List.{append-nil}
 use Rattle.outside.specs.declared.faults.OutFault.{OutFault}
-use Rattle.outside.specs.declared.faults.Failed.{Failed as Fault}
 use Rattle.disk_log.specs.Disk.{History, IsImage, IsSettled, IsQuiet, IfTold, LeavesOnly, Settles, Synced}
 use Rattle.outside.specs.Causes.{Rose}
 use Rattle.disk_log.specs.declared.refusals.OpenRefusal.{OpenRefusal}
@@ -45,11 +44,6 @@ read-to (Some h) mid told end rows (m, is, s) same walked =
     })
 
 -- ---- it is refused
-
--- before the sync
-pub refused-at-once : (old new : Option History) (f : Fault) → Synced old new (Err f) → NotOpened old new
-refused-at-once None new f s = s
-refused-at-once (Some h) new f s = inl s
 
 here : (old m : History) → IsSynced old m → (c : List ℕ) → IsImage m.now c → counted c ≡ counted old.now.reads
 here old m s c image = ap counted (settled-image m.now m.now.reads s.1 c image ∙ s.2)

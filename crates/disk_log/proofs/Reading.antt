@@ -1,9 +1,9 @@
 -- What the index reads is what the members' lists hold.
 use Rattle.std.proofs.Common.{◌≡◌, ℕ, zero, suc, ◌+◌, ◌<◌, ◌≤◌, List, [], ◌∷◌, ◌++◌, length, map, take, drop, get_or, refl, sym, ◌∙◌, ap, subst, arith, take-append-drop, length-take, Option, Some, None}
 use Rattle.std.specs.Prelude.{slice_get, replicate, Bool, true, false, Result, Ok, Err}
-use Rattle.std.proofs.lemmas.List.{length-map, length-take-le}
+use Rattle.std.proofs.lemmas.List.{length-take-le}
 use Rattle.std.proofs.lemmas.List.Elements.{All-get_or}
-use Rattle.outside.specs.Lists.{Journals, journal_of, AddsRecord, KeepsJournals, IsRecordAt, IsCountOf, HasMembers}
+use Rattle.outside.specs.Lists.{Journals, journal_of, AddsRecord, KeepsJournals, IsRecordAt, HasMembers}
 use Rattle.disk_log.specs.declared.moment.Span.{Span}
 use Rattle.disk_log.specs.Disk.{History, IfTold, IsGiven}
 use Rattle.disk_log.specs.Log.{Rows, row_of, bytes_at, IsInside, IsListed}
@@ -39,14 +39,6 @@ read-is (Some h) end members rows m place span bytes width lt is inside kept siz
     ∙ sym (read-map (bytes_at front) (row_of rows m) place span [] is)
     ∙ ap (λ (l : List (List ℕ)). get_or l place []) (sym (get_or-map (map (bytes_at front)) rows m []))
     ∙ ap (λ (l : Journals). get_or (get_or l m []) place []) (kept.lists ∙ ap (λ (n : ℕ). journals_of n (records_to h.now.reads end)) width)
-
--- as many as the list has
-pub count-is : (told : Option History) (end members : ℕ) (rows : Rows) (m : ℕ) → length rows ≡ members → IfTold told (IsKept end rows) → IsCountOf (told_lists told end members) m (length (row_of rows m))
-count-is None end members rows m width kept = tt
-count-is (Some h) end members rows m width kept =
-    let front : List ℕ = take end h.now.reads in
-    sym (length-map (row_of rows m) (bytes_at front))
-    ∙ ap length (sym (get_or-map (map (bytes_at front)) rows m []) ∙ ap (λ (l : Journals). get_or l m []) (kept.lists ∙ ap (λ (n : ℕ). journals_of n (records_to h.now.reads end)) width))
 
 pub members-are : (told : Option History) (end members : ℕ) → HasMembers (told_lists told end members) members
 members-are None end members = tt

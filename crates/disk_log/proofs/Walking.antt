@@ -6,7 +6,7 @@ use Rattle.std.proofs.lemmas.Bool.Decides.{nat_tests}
 use Rattle.wire_bcs.specs.Little.{value_of}
 use Rattle.disk_log.specs.declared.moment.Span.{Span}
 use Rattle.disk_log.specs.Disk.{History, HasExtent, IfTold}
-use Rattle.disk_log.specs.Log.{Rows, with_span, bytes_at, IsInside, IsListed, IsNext, IsWalked, IsWalkedThrough}
+use Rattle.disk_log.specs.Log.{Rows, with_span, bytes_at, IsInside, IsListed, IsNext, IsWalked}
 use Rattle.disk_log.specs.Records.{Record, Whole, none, counted, count_in, record_in, behind_record, records_to, journals_of, bad_member}
 use Rattle.disk_log.proofs.Counting.{counted-open, counted-whole, counted-closed, Whole-push}
 use Rattle.disk_log.proofs.Listing.{listed-more}
@@ -173,7 +173,3 @@ begins reads n = record {
 pub told-begins : (told : Option History) (rows : Rows) → rows ≡ replicate (length rows) [] → IfTold told (λ h. IsWalked 0 rows h.now.reads)
 told-begins None rows is = tt
 told-begins (Some h) rows is = subst (λ (r : Rows). IsWalked 0 r h.now.reads) (sym is) (begins h.now.reads (length rows))
-
-pub told-through : (told : Option History) (at : ℕ) (rows : Rows) → IfTold told (λ h. IsWalked at rows h.now.reads) → IfTold told (λ h. counted (drop at h.now.reads) ≡ []) → IfTold told (λ h. IsWalkedThrough at rows h.now.reads)
-told-through None at rows walked none-left = tt
-told-through (Some h) at rows walked none-left = record { walked = walked; through = none-left }

@@ -4,7 +4,7 @@ use Rattle.std.specs.Prelude.{Option, Some, None, find, is_some, option_map, sli
 use Rattle.std.specs.Option.{option_or}
 use Rattle.std.specs.List.{list_all}
 use Rattle.std.proofs.lemmas.List.Folds.{find-append}
-use Rattle.answer_types.specs.declared.answers.Held.{Held}
+use Rattle.protocol_spec.specs.declared.answers.Held.{Held}
 use Rattle.protocol_spec.specs.Chain.Words.{first_of, first_some, where_true}
 use Rattle.protocol_spec.specs.Member.Admission.{Admission}
 use Rattle.version_assign.proofs.Freeing.{alone}

@@ -6,7 +6,7 @@ use Rattle.std.proofs.lemmas.List.{drop-append-le, drop-map, length-map, map-app
 use Rattle.digest_core.specs.declared.Digest.{Digest}
 use Rattle.checkpoint_core.specs.declared.checkpoints.Item.{Item}
 use Rattle.checkpoint_core.specs.declared.checkpoints.Checkpoint.{Checkpoint}
-use Rattle.answer_types.specs.declared.answers.Held.{Held}
+use Rattle.protocol_spec.specs.declared.answers.Held.{Held}
 use Rattle.protocol_spec.specs.Chain.Words.{first_of, first_some, last_of, where_true}
 use Rattle.protocol_spec.specs.Member.Versions.{Execution}
 use Rattle.protocol_spec.specs.Member.Admission.{Admitted}

@@ -2,7 +2,7 @@
 use Rattle.std.specs.Prelude.{ℕ, suc, ◌+◌, Bool, not, ◌&&◌, Option, List, [], ◌∷◌, take, drop, if◌then◌else◌}
 use Rattle.digest_core.specs.declared.Digest.{Digest}
 use Rattle.checkpoint_core.specs.declared.checkpoints.Item.{Item}
-use Rattle.answer_types.specs.declared.answers.Held.{Held}
+use Rattle.protocol_spec.specs.declared.answers.Held.{Held}
 use Rattle.protocol_spec.specs.Member.Versions.{Execution, execution_of, is_executed}
 use Rattle.protocol_spec.specs.Chain.Words.{where_true}
 use Rattle.protocol_spec.specs.Member.Admission.{Admission, Admitted, is_known}

@@ -103,7 +103,7 @@ impl Chain {
     }
 
     /// The transactions in the epoch's cuts, in the order of admission: those that a member keeps as the epoch changes.
-    pub fn cut_transactions(&self) -> Result<Seq<Digest>, OutOfMemory>
+    pub(crate) fn cut_transactions(&self) -> Result<Seq<Digest>, OutOfMemory>
         ensures value { IfOk result (λ txs. txs ≡ cut_of_chain self.now) }
         ensures cut { IfOk result (λ txs. AreCut self.now txs) }
     {

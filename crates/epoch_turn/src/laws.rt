@@ -2,7 +2,7 @@
 
 ghost use Rattle.std.specs.Prelude.{ℕ, ◌≤◌, ◌++◌, List, length};
 ghost use Rattle.checkpoint_core.specs.declared.checkpoints.Checkpoint.{Checkpoint};
-ghost use Rattle.answer_types.specs.declared.answers.Held.{Held};
+ghost use Rattle.protocol_spec.specs.declared.answers.Held.{Held};
 ghost use Rattle.protocol_spec.specs.Chain.Words.{IsFront};
 ghost use Rattle.protocol_spec.specs.Member.Admission.{Admitted};
 ghost use Rattle.protocol_spec.specs.Member.Checkpoints.{chained};

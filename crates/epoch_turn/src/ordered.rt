@@ -1,12 +1,12 @@
 //! Held certificates and the sequence: how many at the start are in it, and the first that is not.
 
 ghost use Rattle.std.specs.Prelude.{◌≡◌, ◌+◌, ◌≤◌, drop, length, option_map, slice_get};
-ghost use Rattle.answer_types.specs.declared.answers.Held.{Held as H};
+ghost use Rattle.protocol_spec.specs.declared.answers.Held.{Held as H};
 ghost use Rattle.protocol_spec.specs.Chain.Words.{first_of};
 ghost use Rattle.epoch_turn.specs.Dues.{front_length, is_ordered, unordered};
 
-use answer_types::Held;
 use digest_core::Digest;
+use protocol_spec::Held;
 use version_assign::Admission;
 
 /// The certificates from this place on.

@@ -9,18 +9,17 @@ ghost use Rattle.epoch_turn.specs.Dues.{due_of};
 use crate::chain::Chain;
 use crate::due::Due;
 use cert_rules::same_origins;
-use chain_messages::Certificate;
 use digest_core::Digest;
 use version_assign::Admission;
 use vote_rules::HeldBook;
 use wire_bcs::OutOfMemory;
 
-/// Whether the certificate that is held of a transaction names the origins of this one.
-fn is_same(held: &HeldBook, tx: &Digest, cert: &Certificate) -> bool
-    ensures { (a : Admitted) → a.digest ≡ tx.now → a.cert ≡ cert.now → result ≡ (due_of held.now a).same }
+/// Whether the certificate that is held of a transaction names these origins.
+fn is_same(held: &HeldBook, tx: &Digest, origins: &[Option<Digest>]) -> bool
+    ensures { (a : Admitted) → a.digest ≡ tx.now → a.cert.origins ≡ origins.now → result ≡ (due_of held.now a).same }
 {
     match held.get(tx) {
-        Some(known) => same_origins(known.origins.as_slice(), cert.origins.as_slice()),
+        Some(known) => same_origins(known.origins.as_slice(), origins),
         None => false,
     }
 }
@@ -30,10 +29,10 @@ fn due_at(held: &HeldBook, admission: &Admission, place: usize) -> Option<Due>
     ensures { result ≡ option_map (due_of held.now) (slice_get admission.now.admission.admitted place) }
 {
     let tx = admission.admitted_at(place)?;
-    let cert = admission.cert_at(place)?;
+    let origins = admission.origins_at(place)?;
     Some(Due {
         tx,
-        same: is_same(held, &tx, cert),
+        same: is_same(held, &tx, origins),
     })
 }
 

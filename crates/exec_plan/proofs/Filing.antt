@@ -11,7 +11,7 @@ use Rattle.std.specs.declared.cmp.Ordering.TheVariants.{Less, Equal, Greater}
 use Rattle.std.proofs.lemmas.Map.Lookups.{exact_unsigned}
 use Rattle.digest_core.specs.declared.Digest.{Digest}
 use Rattle.chain_types.specs.declared.objects.Producer.TheVariants as producers
-use Rattle.answer_types.specs.declared.answers.Held.{Held}
+use Rattle.protocol_spec.specs.declared.answers.Held.{Held}
 use Rattle.chain_types.specs.Equal.{digest_eq}
 use Rattle.protocol_spec.proofs.Equality.{digest_same, digest_self}
 use Rattle.protocol_spec.proofs.ListLemmas.{has_left, has_right, tail_is}

@@ -5,7 +5,7 @@ use Rattle.std.specs.List.{list_any}
 use Rattle.digest_core.specs.declared.Digest.{Digest}
 use Rattle.chain_types.specs.declared.objects.Object.{Object}
 use Rattle.chain_types.specs.declared.objects.ObjectKey.{ObjectKey}
-use Rattle.answer_types.specs.declared.answers.Held.{Held}
+use Rattle.protocol_spec.specs.declared.answers.Held.{Held}
 use Rattle.chain_types.specs.Equal.{digest_eq, key_eq}
 use Rattle.protocol_spec.proofs.Equality.{key_same, test_turned, key_self}
 use Rattle.protocol_spec.proofs.Executions.{versions_more}

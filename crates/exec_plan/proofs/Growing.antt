@@ -1,26 +1,21 @@
 -- What more admitted transactions change: nothing for a certificate that may run already.
-use Rattle.std.proofs.Common.{◌≡◌, ℕ, zero, suc, Bool, true, false, cond, not, ◌||◌, List, [], ◌∷◌, ◌++◌, map, length, Option, Some, None, is_some, refl, ap, sym, subst, ◌∙◌, append_assoc, append-nil}
-use Rattle.std.specs.Prelude.{drop, find, option_map, zip}
+use Rattle.std.proofs.Common.{◌≡◌, Bool, true, false, cond, not, ◌||◌, List, [], ◌∷◌, ◌++◌, map, Option, Some, is_some, refl, ap, sym, ◌∙◌}
+use Rattle.std.specs.Prelude.{find, option_map, zip}
 use Rattle.digest_core.specs.declared.Digest.{Digest}
-use Rattle.chain_types.specs.declared.objects.Object.{Object}
 use Rattle.chain_types.specs.declared.transactions.Input.TheVariants as inputs
 use Rattle.chain_types.specs.declared.transactions.Transaction.{Transaction}
 use Rattle.chain_types.specs.Equal.{digest_eq}
-use Rattle.answer_types.specs.declared.answers.Assigned.{Assigned}
-use Rattle.answer_types.specs.declared.answers.Held.{Held}
+use Rattle.protocol_spec.specs.declared.answers.Assigned.{Assigned}
+use Rattle.protocol_spec.specs.declared.answers.Held.{Held}
 use Rattle.protocol_spec.proofs.Executions.{same_wants}
-use Rattle.protocol_spec.proofs.ListLemmas.{drop_all}
 use Rattle.protocol_spec.proofs.Truth.{some_mapped}
 use Rattle.protocol_spec.specs.Chain.Keys.{has_shared_input, objects_of}
-use Rattle.protocol_spec.specs.Member.Admission.{Admission, Admitted, admit, assigned_in, assigned_of, digest_of_admitted, entered, is_admitted, is_dropped, is_free, joined_inputs, passed_mark, take_free, taken, taken_as, taken_next}
+use Rattle.protocol_spec.specs.Member.Admission.{Admission, Admitted, assigned_in, assigned_of, digest_of_admitted, is_admitted, joined_inputs}
 use Rattle.protocol_spec.specs.Member.Rounds.{wanted_by, wants_of}
 use Rattle.version_store.proofs.Based.{any_both}
-use Rattle.version_store.specs.Stores.{Stored}
 use Rattle.exec_plan.specs.Behind.{is_among}
 use Rattle.exec_plan.specs.Books.{is_let}
-use Rattle.version_assign.specs.Calls.{Admitting, admitted_since, with_entry, with_mark}
-use Rattle.exec_plan.specs.declared.waiting.Waiting.{Waiting}
-use Rattle.exec_plan.specs.Waits.{Admits, IsWaiting, StoodBefore}
+use Rattle.exec_plan.specs.Waits.{Admits}
 
 -- ---- what is admitted
 
@@ -104,59 +99,3 @@ module _ (before after : Admission) (txs : List Digest) (admits : Admits before 
       go false none d there e = owned h.cert.tx h.cert.origins (assigned_of after h.digest) (assigned_of before h.digest) none
       go true some true there e = ap (λ (assigned : Option (List Assigned)). map (wanted_by assigned) (joined_inputs h.cert)) (assigned_grow h.digest there)
       go true some false there e = absurd (cc)
-
--- ---- what an entry and a mark admit
-
-abbrev Goes : Admission → Admission → Type 0
-Goes a b = (more : List Admitted) × (b.admitted ≡ a.admitted ++ more)
-
-goes_same : (a : Admission) → Goes a a
-goes_same a = ([], sym (append-nil a.admitted))
-
-goes_then : (a b c : Admission) → Goes a b → Goes b c → Goes a c
-goes_then a b c (more, e) (rest, k) = (more ++ rest, k ∙ ap (λ xs. xs ++ rest) e ∙ append_assoc a.admitted more rest)
-
-goes_taken : (opening : List Object) (b : Bool) (a : Admission) (h : Held) → Goes a (taken_as b opening a h)
-goes_taken opening true a h = ([], sym (append-nil a.admitted))
-goes_taken opening false a h = (admit opening a.admitted h ∷ [], refl)
-
-goes_next : (opening : List Object) (next : Admission → Admission) → ((a : Admission) → Goes a (next a)) → (a : Admission) (h : Option Held) → Goes a (taken_next next opening a h)
-goes_next opening next goes a None = goes_same a
-goes_next opening next goes a (Some h) = goes_then a (taken opening a h) (next (taken opening a h)) (goes_taken opening (is_dropped opening a.admitted h.cert) a h) (goes (taken opening a h))
-
-goes_free : (writers : Option ℕ) (opening : List Object) (n : ℕ) (a : Admission) → Goes a (take_free writers opening n a)
-goes_free writers opening zero a = goes_same a
-goes_free writers opening (suc n) a = goes_next opening (take_free writers opening n) (goes_free writers opening n) a (find (is_free writers a) a.pending)
-
-goes_admits : (a b : Admission) → Goes a b → Admits a b (map digest_of_admitted (drop (length a.admitted) b.admitted))
-goes_admits a b (more, e) = record {
-  more = more;
-  admitted = e;
-  named = ap (map digest_of_admitted) (ap (drop (length a.admitted)) e ∙ drop_all a.admitted more);
-}
-
--- between an admission and that after an entry, what stands after the earlier ones was admitted
-entry_admits : (a : Admitting) (h : Held) → Admits a.admission (with_entry a h).admission (admitted_since a.admission (with_entry a h).admission)
-unfolding entered
-entry_admits a h = goes_admits a.admission (with_entry a h).admission (goes_free a.writers a.opening (length (a.admission.pending ++ h ∷ [])) (record a.admission { pending = a.admission.pending ++ h ∷ [] }))
-
--- likewise for a mark
-mark_admits : (a : Admitting) → Admits a.admission (with_mark a).admission (admitted_since a.admission (with_mark a).admission)
-unfolding passed_mark
-mark_admits a = goes_admits a.admission (with_mark a).admission (goes_free a.writers a.opening (length a.admission.pending) (record a.admission { marked = length a.admission.admitted }))
-
--- ---- what an entry and a mark leave to `admit`
-
-module _ (s : Stored) (a b : Admitting) (txs : List Digest) (held all : List Held) (w : Waiting) (named : txs ≡ admitted_since a.admission b.admission) (same : all ≡ held) (waits : IsWaiting s a.admission held w) where
-  stood : Admits a.admission b.admission (admitted_since a.admission b.admission) → StoodBefore s b.admission txs all w
-  stood admits = record {
-    before = a.admission;
-    admits = subst (λ (ds : List Digest). Admits a.admission b.admission ds) (sym named) admits;
-    waits = subst (λ (hs : List Held). IsWaiting s a.admission hs w) (sym same) waits;
-  }
-
-  pub entry_stood : (h : Held) → b ≡ with_entry a h → StoodBefore s b.admission txs all w
-  entry_stood h is = stood (subst (λ (c : Admitting). Admits a.admission c.admission (admitted_since a.admission c.admission)) (sym is) (entry_admits a h))
-
-  pub mark_stood : b ≡ with_mark a → StoodBefore s b.admission txs all w
-  mark_stood is = stood (subst (λ (c : Admitting). Admits a.admission c.admission (admitted_since a.admission c.admission)) (sym is) (mark_admits a))

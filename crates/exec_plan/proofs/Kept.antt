@@ -1,7 +1,7 @@
 -- What is kept of the outputs of a plan is the run, and what the plan took out is filed after it.
 use Rattle.std.proofs.Common.{◌≡◌, ℕ, true, List, ap, sym, subst, ◌∙◌}
 use Rattle.digest_core.specs.declared.Digest.{Digest}
-use Rattle.answer_types.specs.declared.answers.Held.{Held}
+use Rattle.protocol_spec.specs.declared.answers.Held.{Held}
 use Rattle.protocol_spec.specs.Chain.Words.{Each}
 use Rattle.protocol_spec.specs.Member.Versions.{is_executed}
 use Rattle.protocol_spec.specs.Member.Admission.{Admission}

@@ -13,7 +13,7 @@ use Rattle.digest_core.specs.declared.Digest.{Digest}
 use Rattle.chain_types.specs.declared.objects.ObjectKey.{ObjectKey}
 use Rattle.chain_types.specs.declared.objects.Producer.{Producer}
 use Rattle.chain_types.specs.declared.objects.Producer.TheVariants as producers
-use Rattle.answer_types.specs.declared.answers.Held.{Held}
+use Rattle.protocol_spec.specs.declared.answers.Held.{Held}
 use Rattle.chain_types.specs.Equal.{digest_eq}
 use Rattle.protocol_spec.proofs.Equality.{digest_same, test_turned, digest_self}
 use Rattle.protocol_spec.proofs.ListLemmas.{tail_is}
@@ -35,17 +35,17 @@ use Rattle.exec_plan.proofs.Layering.{Joins, planned_along}
 use Rattle.exec_plan.proofs.Linking.{IsForward, comes_from, forward_here, links_forward, links_join, longer_by, task_plan, tasks_join}
 
 -- one more certificate, by what each call leaves
-pub drafted_of : (vs : List Version) (ws needs : List Wanted) (d : Drafted) (h : Held) (before keys : List Digest) (old mid tasks : List Planned) (task : Planned) (start edges : List Edge) (wants : List Want) (links : List Link)
-    → record { keys = before; tasks = old; edges = start } ≡ d → needs ≡ ws → wants ≡ map (want_in vs before) needs → links ≡ filter_map (link_in vs before) needs → mid ≡ all_given old links
+pub drafted_of : (vs : List Version) (ws : List Wanted) (d : Drafted) (h : Held) (before keys : List Digest) (old mid tasks : List Planned) (task : Planned) (start edges : List Edge) (wants : List Want) (links : List Link)
+    → record { keys = before; tasks = old; edges = start } ≡ d → wants ≡ map (want_in vs before) ws → links ≡ filter_map (link_in vs before) ws → mid ≡ all_given old links
     → edges ≡ start ++ map edge_of links → task ≡ bare_task h wants → tasks ≡ mid ++ task ∷ [] → keys ≡ insert_key digest_eq before h.digest
     → record { keys = keys; tasks = tasks; edges = edges } ≡ drafted_with vs ws d h
-drafted_of vs ws needs d h before keys old mid tasks task start edges wants links is same wanted linked gave edged bare pushed inserted =
+drafted_of vs ws d h before keys old mid tasks task start edges wants links is wanted linked gave edged bare pushed inserted =
     ap (λ ks. draft ks tasks edges) inserted
     ∙ ap (λ ts. draft (insert_key digest_eq before h.digest) ts edges)
-    (pushed ∙ ap (λ m. m ++ task ∷ []) (gave ∙ ap (all_given old) (linked ∙ ap (filter_map (link_in vs before)) same))
-    ∙ ap (λ (t : Planned). all_given old (filter_map (link_in vs before) ws) ++ t ∷ []) (bare ∙ ap (bare_task h) (wanted ∙ ap (map (want_in vs before)) same)))
+    (pushed ∙ ap (λ m. m ++ task ∷ []) (gave ∙ ap (all_given old) linked)
+    ∙ ap (λ (t : Planned). all_given old (filter_map (link_in vs before) ws) ++ t ∷ []) (bare ∙ ap (bare_task h) wanted))
     ∙ ap (draft (insert_key digest_eq before h.digest) (all_given old (filter_map (link_in vs before) ws) ++ bare_task h (map (want_in vs before) ws) ∷ []))
-    (edged ∙ ap (λ ls. start ++ map edge_of ls) (linked ∙ ap (filter_map (link_in vs before)) same))
+    (edged ∙ ap (λ ls. start ++ map edge_of ls) linked)
     ∙ ap (λ (x : Drafted). drafted_with vs ws x h) is
   where
     draft : List Digest → List Planned → List Edge → Drafted
@@ -54,27 +54,24 @@ drafted_of vs ws needs d h before keys old mid tasks task start edges wants link
 -- ---- loops
 
 -- one item more is mapped, the first of those that are left
-pub front_mapped : {A B : Type 0} (f : A → B) (done new : List B) (rest : List A) (x : A) {all : List B} → x ≡ get_or rest 0 x → 1 ≤ length rest → new ≡ done ++ f x ∷ [] → done ++ map f rest ≡ all
-    → new ++ map f (take (length rest - 1) (drop 1 rest)) ≡ all
-front_mapped f done new [] x first some more whole = absurd (omega (arith, some))
-front_mapped f done new (y ∷ ys) x first some more whole =
-    ap (λ l. new ++ map f l) (tail_is y ys)
-    ∙ ap (λ l. l ++ map f ys) (more ∙ ap (λ z. done ++ f z ∷ []) first)
-    ∙ append_assoc done (f y ∷ []) (map f ys)
+pub front_mapped : {A B : Type 0} (f : A → B) (done new : List B) (left rest : List A) (x : A) {all : List B} → left ≡ x ∷ rest → new ≡ done ++ f x ∷ [] → done ++ map f left ≡ all → new ++ map f rest ≡ all
+front_mapped f done new left rest x first more whole =
+    ap (λ l. l ++ map f rest) more
+    ∙ append_assoc done (f x ∷ []) (map f rest)
+    ∙ sym (ap (λ l. done ++ map f l) first)
     ∙ whole
 
 -- the same, if an item may give nothing
-pub front_picked : {A B : Type 0} (f : A → Option B) (done new : List B) (rest : List A) (x : A) {all : List B} → x ≡ get_or rest 0 x → 1 ≤ length rest → new ≡ done ++ option_to_list (f x)
-    → done ++ filter_map f rest ≡ all → new ++ filter_map f (take (length rest - 1) (drop 1 rest)) ≡ all
-front_picked f done new [] x first some more whole = absurd (omega (arith, some))
-front_picked {B = B} f done new (y ∷ ys) x first some more whole =
-    ap (λ l. new ++ filter_map f l) (tail_is y ys)
-    ∙ ap (λ l. l ++ filter_map f ys) (more ∙ ap (λ z. done ++ option_to_list (f z)) first)
-    ∙ append_assoc done (option_to_list (f y)) (filter_map f ys)
-    ∙ ap (λ l. done ++ l) (one (f y))
+pub front_picked : {A B : Type 0} (f : A → Option B) (done new : List B) (left rest : List A) (x : A) {all : List B} → left ≡ x ∷ rest → new ≡ done ++ option_to_list (f x) → done ++ filter_map f left ≡ all
+    → new ++ filter_map f rest ≡ all
+front_picked {B = B} f done new left rest x first more whole =
+    ap (λ l. l ++ filter_map f rest) more
+    ∙ append_assoc done (option_to_list (f x)) (filter_map f rest)
+    ∙ ap (λ l. done ++ l) (one (f x))
+    ∙ sym (ap (λ l. done ++ filter_map f l) first)
     ∙ whole
   where
-    one : (o : Option B) → option_to_list o ++ filter_map f ys ≡ cons_option o (filter_map f ys)
+    one : (o : Option B) → option_to_list o ++ filter_map f rest ≡ cons_option o (filter_map f rest)
     one None = refl
     one (Some z) = refl
 

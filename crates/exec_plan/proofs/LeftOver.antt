@@ -4,8 +4,8 @@ use Rattle.std.specs.Prelude.{◌⊎◌, ◌≤◌, filter, slice_get}
 use Rattle.std.specs.List.Sorted.{IsStrictlySortedBy}
 use Rattle.std.specs.Ordering.{nat_cmp}
 use Rattle.std.specs.List.{list_all}
-use Rattle.answer_types.specs.declared.answers.Held.{Held}
-use Rattle.answer_types.specs.declared.answers.Left.{Left}
+use Rattle.protocol_spec.specs.declared.answers.Held.{Held}
+use Rattle.protocol_spec.specs.declared.answers.Left.{Left}
 use Rattle.protocol_spec.specs.Chain.Words.{Each, Has, first_of, where_true}
 use Rattle.protocol_spec.specs.Member.Versions.{is_executed}
 use Rattle.protocol_spec.specs.Member.Admission.{Admission}

@@ -1,5 +1,4 @@
 pub mod Joined
-pub mod Executing
 pub mod Growing
 pub mod Readying
 pub mod Rounding

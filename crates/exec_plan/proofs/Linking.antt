@@ -10,7 +10,7 @@ use Rattle.digest_core.specs.declared.Digest.{Digest}
 use Rattle.chain_types.specs.declared.objects.Object.{Object}
 use Rattle.chain_types.specs.declared.objects.Producer.{Producer}
 use Rattle.chain_types.specs.declared.objects.Producer.TheVariants as producers
-use Rattle.answer_types.specs.declared.answers.Held.{Held}
+use Rattle.protocol_spec.specs.declared.answers.Held.{Held}
 use Rattle.protocol_spec.proofs.ListLemmas.{each_join}
 use Rattle.protocol_spec.specs.Chain.Words.{Each}
 use Rattle.protocol_spec.specs.Member.Versions.{Version}

@@ -9,7 +9,7 @@ use Rattle.indexmap.specs.IndexSet.{insert_all, insert_key}
 use Rattle.digest_core.specs.declared.Digest.{Digest}
 use Rattle.chain_types.specs.declared.objects.Producer.{Producer}
 use Rattle.chain_types.specs.declared.objects.Producer.TheVariants as producers
-use Rattle.answer_types.specs.declared.answers.Held.{Held}
+use Rattle.protocol_spec.specs.declared.answers.Held.{Held}
 use Rattle.chain_types.specs.Equal.{digest_eq}
 use Rattle.protocol_spec.proofs.Equality.{digest_same, test_turned, digest_self}
 use Rattle.protocol_spec.proofs.ListLemmas.{has_left, has_right, tail_is}
@@ -404,9 +404,6 @@ module _ (s : Stored) (a : Admission) (held : List Held) where
       empty : (hs : List Held) → is_empty_list hs ≡ true → hs ≡ []
       empty [] e = refl
       empty (h ∷ hs) e = absurd (cc)
-
-  pub goes_end : (left : ℕ) (txs : List Digest) (planned : List Held) → Goes s a held left txs planned → left ≡ 0 → planned ≡ planned_of b s.executed
-  goes_end left txs planned goes none = sym (append-nil planned) ∙ ap (λ n. planned ++ layers_within n b s.executed planned) (sym none) ∙ goes.whole
 
   -- ---- after a plan
 

@@ -3,14 +3,14 @@ use Rattle.std.specs.Prelude.{◌≡◌, Bool, false, not, ◌&&◌, List, [], m
 use Rattle.std.specs.List.{list_all}
 use Rattle.digest_core.specs.declared.Digest.{Digest}
 use Rattle.effects_core.specs.declared.effects.Effects.{Effects}
-use Rattle.answer_types.specs.declared.answers.Held.{Held}
+use Rattle.protocol_spec.specs.declared.answers.Held.{Held}
 use Rattle.chain_types.specs.Equal.{digest_eq}
 use Rattle.chain_types.specs.Digests.{transaction_digest}
 use Rattle.protocol_spec.specs.Chain.Words.{repeats, where_true}
 use Rattle.protocol_spec.specs.Chain.Shape.{shape_fault}
 use Rattle.protocol_spec.specs.Member.Versions.{Execution, is_executed}
 use Rattle.protocol_spec.specs.Member.Admission.{Admission}
-use Rattle.answer_types.specs.declared.answers.Left.{Left}
+use Rattle.protocol_spec.specs.declared.answers.Left.{Left}
 use Rattle.protocol_spec.specs.Member.Rounds.{Books, is_due, is_origin_done, left_as, may_run, ready}
 use Rattle.version_store.specs.Stores.{Stored}
 
@@ -38,9 +38,6 @@ is_let a h = may_run (record { opening = []; held = []; admission = a }) h
 -- what the certificate's execution gives, if it is ready in this store
 abbrev pub ready_in : Stored → Admission → Held → Option Execution
 ready_in s a h = ready (books_of s a []) s.executed h
-
-abbrev pub digest_of : Execution → Digest
-digest_of x = x.digest
 
 abbrev pub effects_of : Execution → Effects
 effects_of x = x.gave.effects

@@ -4,7 +4,7 @@ use Rattle.std.specs.List.{list_all}
 use Rattle.digest_core.specs.declared.Digest.{Digest}
 use Rattle.chain_types.specs.declared.objects.Producer.{Producer}
 use Rattle.chain_types.specs.declared.objects.Producer.TheVariants as producers
-use Rattle.answer_types.specs.declared.answers.Held.{Held}
+use Rattle.protocol_spec.specs.declared.answers.Held.{Held}
 use Rattle.protocol_spec.specs.Chain.Words.{Has, first_of, where_true}
 use Rattle.protocol_spec.specs.Member.Versions.{Execution, is_executed}
 use Rattle.protocol_spec.specs.Member.Admission.{Admission}

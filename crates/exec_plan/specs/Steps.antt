@@ -1,7 +1,7 @@
 -- How a run goes over the places of certificates.
 use Rattle.std.specs.Prelude.{ℕ, List, [], ◌∷◌, ◌++◌, Option, Some, None, slice_get}
-use Rattle.answer_types.specs.declared.answers.Held.{Held}
-use Rattle.answer_types.specs.declared.answers.Left.{Left}
+use Rattle.protocol_spec.specs.declared.answers.Held.{Held}
+use Rattle.protocol_spec.specs.declared.answers.Left.{Left}
 use Rattle.protocol_spec.specs.Member.Admission.{Admission}
 use Rattle.version_store.specs.Stores.{Stored}
 use Rattle.exec_plan.specs.Books.{left_in}

@@ -8,8 +8,8 @@ use Rattle.chain_types.specs.declared.objects.Object.{Object}
 use Rattle.chain_types.specs.declared.objects.Producer.{Producer}
 use Rattle.chain_types.specs.declared.objects.Producer.TheVariants as producers
 use Rattle.chain_types.specs.declared.transactions.Transaction.{Transaction}
-use Rattle.answer_types.specs.declared.answers.Held.{Held}
-use Rattle.answer_types.specs.declared.answers.Left.{Left}
+use Rattle.protocol_spec.specs.declared.answers.Held.{Held}
+use Rattle.protocol_spec.specs.declared.answers.Left.{Left}
 use Rattle.chain_types.specs.Equal.{digest_eq, key_eq}
 use Rattle.chain_types.specs.Digests.{consumed_keys, transaction_digest}
 use Rattle.protocol_spec.specs.Chain.Words.{first_of, where_true}

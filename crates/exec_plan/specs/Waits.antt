@@ -1,7 +1,7 @@
 -- Where each held certificate stands.
 use Rattle.std.specs.Prelude.{◌≡◌, ℕ, true, false, List, [], ◌++◌, map, Some, slice_get}
 use Rattle.digest_core.specs.declared.Digest.{Digest}
-use Rattle.answer_types.specs.declared.answers.Held.{Held}
+use Rattle.protocol_spec.specs.declared.answers.Held.{Held}
 use Rattle.protocol_spec.specs.Chain.Words.{Has}
 use Rattle.protocol_spec.specs.Member.Versions.{Execution, is_executed}
 use Rattle.protocol_spec.specs.Member.Admission.{Admission, Admitted, digest_of_admitted}

@@ -1,10 +1,11 @@
--- How what a certificate's transaction wants is collected.
-use Rattle.std.specs.Prelude.{List, [], ◌∷◌, ◌++◌, Option}
+-- What is wanted of the objects of a certificate's transaction that are left.
+use Rattle.std.specs.Prelude.{List, [], ◌∷◌, filter, map, Option, Some, None}
 use Rattle.digest_core.specs.declared.Digest.{Digest}
 use Rattle.chain_types.specs.declared.transactions.Input.{Input}
 use Rattle.chain_types.specs.declared.transactions.Input.TheVariants as inputs
-use Rattle.answer_types.specs.declared.answers.Assigned.{Assigned}
-use Rattle.chain_types.specs.Digests.{key_of}
+use Rattle.protocol_spec.specs.declared.answers.Assigned.{Assigned}
+use Rattle.chain_types.specs.declared.objects.ObjectKey.{ObjectKey}
+use Rattle.chain_types.specs.Digests.{is_object, key_of}
 use Rattle.protocol_spec.specs.Member.Versions.{Version}
 use Rattle.protocol_spec.specs.Member.Rounds.{Wanted, assigned_id, wanted_as, wanted_version}
 use Rattle.exec_plan.specs.declared.inputs.Named.{Named}
@@ -21,8 +22,13 @@ abbrev pub want_of : Option (List Assigned) → Named → Option Digest → Want
 want_of assigned (named.Version key) origin = wanted_version key origin
 want_of assigned (named.Shared id initial) origin = wanted_as id initial (assigned_id assigned id)
 
--- what is wanted so far, and after it what is wanted of these, each of its origin
-abbrev pub wants_after : Option (List Assigned) → List Wanted → List Named → List (Option Digest) → List Wanted
-wants_after assigned wants [] origins = wants
-wants_after assigned wants (n ∷ ns) [] = wants
-wants_after assigned wants (n ∷ ns) (o ∷ os) = wants_after assigned (wants ++ want_of assigned n o ∷ []) ns os
+-- the objects that are left: the gas coin's version, if it is there, and what these inputs name
+abbrev pub named_left : Option ObjectKey → List Input → List Named
+named_left None inputs = map named_in (filter is_object inputs)
+named_left (Some key) inputs = named.Version key ∷ map named_in (filter is_object inputs)
+
+-- what is wanted of these objects, each of its origin
+abbrev pub wants_left : Option (List Assigned) → List Named → List (Option Digest) → List Wanted
+wants_left assigned [] origins = []
+wants_left assigned (n ∷ ns) [] = []
+wants_left assigned (n ∷ ns) (o ∷ os) = want_of assigned n o ∷ wants_left assigned ns os

@@ -9,14 +9,14 @@ ghost use Rattle.exec_plan.specs.Books.{IsSound};
 ghost use Rattle.exec_plan.specs.Drafts.{IsDraft, all_given, drafted_after, drafted_at, drafted_with, given, link_in, nothing_drafted, number_in, picked, want_in};
 ghost use Rattle.exec_plan.specs.Tasks.{edge_of, link_as, origin_of, slot_as};
 
-use crate::inputs::{Want as Need, found, wants};
+use crate::inputs::{Want as Need, Wants as Needs, found};
 use crate::link::Link;
 use crate::task::{Slot, Task, Want};
-use answer_types::Held;
 use chain_types::{HashedObject, ObjectKey, Producer};
 use dag_core::{Edge, Plan, PlanRefusal};
 use digest_core::Digest;
 use indexmap::IndexSet;
+use protocol_spec::Held;
 use std::alloc::Global;
 use std::marker::Model;
 use version_assign::Admission;
@@ -123,23 +123,24 @@ fn add_need(
     add_link(links, link_of(to, need.key(), there, number))
 }
 
-/// What the next task after these wants, and the links to it.
+/// What this certificate's task wants, the next after these, and the links to it.
 fn wanting(
     alloc: Global,
     store: &Store,
+    admission: &Admission,
     numbers: &IndexSet<Digest>,
-    needs: &[Need],
+    held: &Held,
 ) -> Result<Wanted, OutOfMemory>
     requires { length numbers.now.keys < 2 ^ 31 }
-    ensures wants { IfOk result (λ w. w.wants ≡ map (want_in (held_in store.now) numbers.now.keys) needs.now) }
-    ensures links { IfOk result (λ w. w.links ≡ filter_map (link_in (held_in store.now) numbers.now.keys) needs.now) }
+    ensures wants { IfOk result (λ w. w.wants ≡ map (want_in (held_in store.now) numbers.now.keys) (wants_of admission.now.admission held.now)) }
+    ensures links { IfOk result (λ w. w.links ≡ filter_map (link_in (held_in store.now) numbers.now.keys) (wants_of admission.now.admission held.now)) }
 {
-    let mut wants = Seq::new(alloc);
+    // An origin is named for each object that is wanted.
+    let mut wants = Seq::with_room(alloc, held.cert.origins.len())?;
     let mut links = Seq::new(alloc);
-    let mut rest = needs;
-    while let [need, after @ ..] = rest {
-        add_need(store, numbers, need, &mut wants, &mut links)?;
-        rest = after;
+    let mut needs = Needs::of(admission, held);
+    while let Some(need) = needs.take_next() {
+        add_need(store, numbers, &need, &mut wants, &mut links)?;
     }
     Ok(Wanted { wants, links })
 }
@@ -198,15 +199,15 @@ impl<'a> Model for Draft<'a> {
 }
 
 impl<'a> Draft<'a> {
-    /// Nothing so far. Takes no memory.
-    pub(crate) fn new(alloc: Global) -> Draft<'a>
-        ensures { result ≡ nothing_drafted }
+    /// Nothing so far, with room for so many tasks.
+    pub(crate) fn with_room(alloc: Global, tasks: usize) -> Result<Draft<'a>, OutOfMemory>
+        ensures { IfOk result (λ draft. draft ≡ nothing_drafted) }
     {
-        Draft {
-            numbers: IndexSet::new(alloc),
-            tasks: Vec::new(alloc),
+        Ok(Draft {
+            numbers: IndexSet::with_capacity(alloc, tasks)?,
+            tasks: Vec::with_capacity(alloc, tasks)?,
             edges: Seq::new(alloc),
-        }
+        })
     }
 
     /// With the task of one more certificate, and the edges to it.
@@ -226,8 +227,7 @@ impl<'a> Draft<'a> {
         if numbers.len() >= LIMIT {
             return Err(OutOfMemory);
         }
-        let needs = wants(alloc, admission, held)?;
-        let wanting = wanting(alloc, store, &numbers, needs.as_slice())?;
+        let wanting = wanting(alloc, store, admission, &numbers, held)?;
         give_all(&mut tasks, wanting.links.as_slice())?;
         add_edges(&mut edges, wanting.links.as_slice())?;
         tasks.push(Task::bare(alloc, held, wanting.wants))?;
@@ -289,10 +289,11 @@ pub(crate) fn draft_all<'a>(
     requires { Each IsSound held.now }
     ensures { IfOk result (λ draft. draft ≡ drafted_after (held_in store.now) admission.now.admission nothing_drafted (picked held.now places.now)) }
 {
-    let mut draft = Draft::new(alloc);
+    let mut draft = Draft::with_room(alloc, places.len())?;
     let mut rest = places;
     while let [place, after @ ..] = rest {
-        draft = with_at(draft, alloc, store, admission, held, *place)?;
+        let more = with_at(draft, alloc, store, admission, held, *place)?;
+        draft = more;
         rest = after;
     }
     Ok(draft)

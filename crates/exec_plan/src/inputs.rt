@@ -1,23 +1,21 @@
 //! The versions that a certificate's inputs want.
 
-ghost use Rattle.std.specs.Prelude.{◌≡◌, [], IfOk, None, Some, find, map, option_copied, true};
+ghost use Rattle.std.specs.Prelude.{◌≡◌, ◌∷◌, [], MatchOption, None, Some, filter, find, map, option_copied, true};
 ghost use Rattle.chain_types.specs.Digests.{is_object};
-ghost use Rattle.protocol_spec.specs.Chain.Keys.{has_shared_input, is_shared_input, objects_of};
+ghost use Rattle.protocol_spec.specs.Chain.Keys.{has_shared_input, is_shared_input};
 ghost use Rattle.protocol_spec.specs.Chain.Words.{first_of};
 ghost use Rattle.protocol_spec.specs.Member.Admission.{assigned_of};
 ghost use Rattle.protocol_spec.specs.Member.Rounds.{assigned_id, found, is_of_id, missing, producer_of, wanted_as, wants_of};
 ghost use Rattle.exec_plan.specs.Books.{is_let};
-ghost use Rattle.exec_plan.specs.Wants.{named_in, want_of, wants_after};
+ghost use Rattle.exec_plan.specs.Wants.{named_in, named_left, want_of};
 ghost use Rattle.version_store.specs.Stores.{held_in};
 
-use answer_types::{Assigned, Held};
 use chain_types::{HashedObject, Input, ObjectId, ObjectKey, Producer, Transaction};
 use digest_core::Digest;
-use std::alloc::Global;
+use protocol_spec::{Assigned, Held};
 use std::marker::Model;
 use version_assign::Admission;
 use version_store::Store;
-use wire_bcs::{OutOfMemory, Seq};
 
 /// Whether the input names an object.
 fn is_object(input: &Input) -> bool
@@ -108,18 +106,28 @@ fn name_of(input: &Input) -> Named
     }
 }
 
-/// The objects that a transaction names, gas first.
-fn all_named(alloc: Global, tx: &Transaction) -> Result<Seq<Named>, OutOfMemory>
-    ensures { IfOk result (λ all. all ≡ map named_in (objects_of tx.now)) }
+/// The first object that inputs name, and the inputs after it.
+fn next_object<'a>(inputs: &'a [Input]) -> Option<(Named, &'a [Input])>
+    ensures { MatchOption result (map named_in (filter is_object inputs.now) ≡ []) (λ found. map named_in (filter is_object inputs.now) ≡ found.0 ∷ map named_in (filter is_object found.1.now)) }
 {
-    let mut all = Seq::new(alloc);
-    all.push(Named::Version(tx.gas.key()))?;
-    for input in tx.inputs.as_slice() {
+    let mut rest = inputs;
+    while let [input, after @ ..] = rest {
         if is_object(input) {
-            all.push(name_of(input))?;
+            return Some((name_of(input), after));
         }
+        rest = after;
     }
-    Ok(all)
+    None
+}
+
+/// The first object that is left, and the inputs after it: the gas coin, unless it is taken, and then what the inputs name.
+fn split_named<'a>(gas: Option<ObjectKey>, inputs: &'a [Input]) -> Option<(Named, &'a [Input])>
+    ensures { MatchOption result (named_left gas inputs.now ≡ []) (λ found. named_left gas inputs.now ≡ found.0 ∷ named_left None found.1.now) }
+{
+    match gas {
+        Some(key) => Some((Named::Version(key), inputs)),
+        None => next_object(inputs),
+    }
 }
 
 /// Who made a version of this origin.
@@ -193,48 +201,61 @@ fn want_of(admission: &Admission, tx: &Digest, named: Named, origin: Option<Dige
     }
 }
 
-/// What a transaction wants of these objects, each of its origin, after what it wants so far.
-fn wants_after(
-    all: Seq<Want>,
-    admission: &Admission,
-    tx: &Digest,
-    named: &[Named],
-    origins: &[Option<Digest>],
-) -> Result<Seq<Want>, OutOfMemory>
-    ensures { IfOk result (λ more. more ≡ wants_after (assigned_of admission.now.admission tx.now) all named.now origins.now) }
-{
-    let mut all = all;
-    let mut left = named;
-    let mut rest = origins;
-    while let [named, after @ ..] = left {
-        let [origin, others @ ..] = rest else {
-            return Ok(all);
-        };
-        all.push(want_of(admission, tx, *named, *origin))?;
-        left = after;
-        rest = others;
-    }
-    Ok(all)
+/// What a certificate's transaction still wants. Contracts see the list of it.
+#[derive(Drop)]
+pub(crate) struct Wants<'a> {
+    admission: &'a Admission,
+    tx: &'a Digest,
+    /// The version of the gas coin, until it is taken.
+    gas: Option<ObjectKey>,
+    /// The inputs and origins that are left.
+    inputs: &'a [Input],
+    origins: &'a [Option<Digest>],
 }
 
-/// What a certificate's transaction wants, gas first: each named version of its origin, and of a shared object
-/// the assigned version of its writer.
-#[tactic(auto, using(crate::proofs::Joined::wants_are))]
-pub(crate) fn wants(
-    alloc: Global,
-    admission: &Admission,
-    held: &Held,
-) -> Result<Seq<Want>, OutOfMemory>
-    ensures { IfOk result (λ all. all ≡ wants_of admission.now.admission held.now) }
-{
-    let named = all_named(alloc, &held.cert.tx)?;
-    wants_after(
-        Seq::new(alloc),
-        admission,
-        &held.digest,
-        named.as_slice(),
-        held.cert.origins.as_slice(),
-    )
+impl<'a> Model for Wants<'a> {
+    ghost use Rattle.std.specs.Prelude.{List};
+    ghost use Rattle.protocol_spec.specs.Member.Admission.{assigned_of};
+    ghost use Rattle.protocol_spec.specs.Member.Rounds.{Wanted};
+    ghost use Rattle.exec_plan.specs.Wants.{named_left, wants_left};
+
+    ghost Value = { List Wanted };
+
+    ghost view = { λ w. wants_left (assigned_of w.admission.now.admission w.tx.now) (named_left w.gas w.inputs.now) w.origins.now };
+}
+
+impl<'a> Wants<'a> {
+    /// What a certificate's transaction wants, gas first: each named version of its origin, and of a shared object
+    /// the assigned version of its writer. Takes no memory.
+    #[tactic(auto, using(crate::proofs::Joined::wants_are))]
+    pub(crate) fn of(admission: &'a Admission, held: &'a Held) -> Wants<'a>
+        ensures { result ≡ wants_of admission.now.admission held.now }
+    {
+        Wants {
+            admission,
+            tx: &held.digest,
+            gas: Some(held.cert.tx.gas.key()),
+            inputs: held.cert.tx.inputs.as_slice(),
+            origins: held.cert.origins.as_slice(),
+        }
+    }
+
+    /// Takes out the first of what is wanted. Takes no memory.
+    pub(crate) fn take_next(&mut self) -> Option<Want>
+        ensures { MatchOption result (self.old ≡ []) (λ want. self.old ≡ want ∷ self.new) }
+    {
+        let Some((named, inputs)) = split_named(self.gas, self.inputs) else {
+            return None;
+        };
+        let [origin, others @ ..] = self.origins else {
+            return None;
+        };
+        let want = want_of(self.admission, self.tx, named, *origin);
+        self.gas = None;
+        self.inputs = inputs;
+        self.origins = others;
+        Some(want)
+    }
 }
 
 /// The object that is wanted, if it is held.
@@ -247,16 +268,15 @@ pub(crate) fn found<'a>(store: &'a Store, want: &Want) -> Option<&'a HashedObjec
     }
 }
 
-/// The first version that is wanted and is not held.
-pub(crate) fn first_missing(store: &Store, wants: &[Want]) -> Option<ObjectKey>
-    ensures { result ≡ first_of (missing (held_in store.now)) wants.now }
+/// The first version that a certificate's transaction wants and that is not held.
+pub(crate) fn first_missing(store: &Store, admission: &Admission, held: &Held) -> Option<ObjectKey>
+    ensures { result ≡ first_of (missing (held_in store.now)) (wants_of admission.now.admission held.now) }
 {
-    let mut rest = wants;
-    while let [want, after @ ..] = rest {
-        if found(store, want).is_none() {
+    let mut wants = Wants::of(admission, held);
+    while let Some(want) = wants.take_next() {
+        if found(store, &want).is_none() {
             return Some(want.key());
         }
-        rest = after;
     }
     None
 }

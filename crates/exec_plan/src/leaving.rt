@@ -7,13 +7,13 @@ ghost use Rattle.exec_plan.specs.Books.{books_of, left_in, may_be_left};
 ghost use Rattle.exec_plan.specs.Steps.{left_add, left_after, left_of};
 ghost use Rattle.exec_plan.specs.Waits.{IsWaiting};
 
-use crate::inputs::{first_missing, is_let, wants};
-use crate::makers::first_unmade;
+use crate::inputs::{first_missing, is_let};
+use crate::makers::awaited;
 use crate::past::Past;
 use crate::waiting::Waiting;
-use answer_types::{Held, Left};
 use digest_core::Digest;
 use indexmap::IndexSet;
+use protocol_spec::{Held, Left};
 use std::alloc::Global;
 use version_assign::Admission;
 use version_store::Store;
@@ -54,26 +54,20 @@ fn may_be_left(store: &Store, admission: &Admission, held: &Held) -> bool
 
 /// The certificate as it is left, if it is.
 #[tactic(auto, using(crate::proofs::LeftOver::left_so))]
-fn left_one(
-    alloc: Global,
-    store: &Store,
-    admission: &Admission,
-    held: &Held,
-) -> Result<Option<Left>, OutOfMemory>
-    ensures { IfOk result (λ one. one ≡ left_in store.now admission.now.admission held.now) }
+fn left_one(alloc: Global, store: &Store, admission: &Admission, held: &Held) -> Option<Left>
+    ensures { result ≡ left_in store.now admission.now.admission held.now }
 {
     if !may_be_left(store, admission, held) {
-        return Ok(None);
+        return None;
     }
-    let wants = wants(alloc, admission, held)?;
     let none = IndexSet::new(alloc);
-    if first_unmade(&Past::of(store, &none), wants.as_slice()).is_some() {
-        return Ok(None);
+    if awaited(&Past::of(store, &none), admission, held).is_some() {
+        return None;
     }
-    Ok(Some(Left {
+    Some(Left {
         tx: held.digest,
-        key: first_missing(store, wants.as_slice()),
-    }))
+        key: first_missing(store, admission, held),
+    })
 }
 
 /// Likewise for the certificate at a place, none if there is none.
@@ -83,12 +77,12 @@ fn left_at(
     admission: &Admission,
     held: &[Held],
     place: usize,
-) -> Result<Option<Left>, OutOfMemory>
-    ensures { IfOk result (λ one. one ≡ left_of store.now admission.now.admission (slice_get held.now place)) }
+) -> Option<Left>
+    ensures { result ≡ left_of store.now admission.now.admission (slice_get held.now place) }
 {
     match held.get(place) {
         Some(held) => left_one(alloc, store, admission, held),
-        None => Ok(None),
+        None => None,
     }
 }
 
@@ -115,7 +109,7 @@ fn left_among(
     let mut left = Seq::new(alloc);
     let mut rest = places;
     while let [place, after @ ..] = rest {
-        let one = left_at(alloc, store, admission, held, *place)?;
+        let one = left_at(alloc, store, admission, held, *place);
         add_left(&mut left, one)?;
         rest = after;
     }

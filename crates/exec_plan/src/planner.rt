@@ -15,9 +15,9 @@ use crate::inputs::is_let;
 use crate::makers::awaited;
 use crate::past::Past;
 use crate::waiting::Waiting;
-use answer_types::Held;
 use digest_core::Digest;
 use indexmap::IndexSet;
+use protocol_spec::Held;
 use std::alloc::Global;
 use version_assign::Admission;
 use version_store::Store;
@@ -26,34 +26,23 @@ use wire_bcs::{OutOfMemory, Seq};
 /// Whether a certificate joins the next layer: it is neither executed nor planned, it may run, and all that makes what it
 /// wants is executed or planned.
 #[tactic(auto, using(crate::proofs::Making::waits_where))]
-fn joins(
-    alloc: Global,
-    past: &Past<'_>,
-    admission: &Admission,
-    held: &Held,
-) -> Result<bool, OutOfMemory>
-    ensures { IfOk result (λ joins. joins ≡ joins_now past.now admission.now.admission held.now) }
+fn joins(past: &Past<'_>, admission: &Admission, held: &Held) -> bool
+    ensures { result ≡ joins_now past.now admission.now.admission held.now }
 {
     if past.is_executed(&held.digest) || !is_let(admission, held) {
-        return Ok(false);
+        return false;
     }
-    let awaited = awaited(alloc, past, admission, held)?;
-    Ok(awaited.is_none())
+    let awaited = awaited(past, admission, held);
+    awaited.is_none()
 }
 
 /// Likewise for the certificate at a place, if there is one.
-fn joins_at(
-    alloc: Global,
-    past: &Past<'_>,
-    admission: &Admission,
-    held: &[Held],
-    place: usize,
-) -> Result<bool, OutOfMemory>
-    ensures { IfOk result (λ joins. joins ≡ joins_of past.now admission.now.admission (slice_get held.now place)) }
+fn joins_at(past: &Past<'_>, admission: &Admission, held: &[Held], place: usize) -> bool
+    ensures { result ≡ joins_of past.now admission.now.admission (slice_get held.now place) }
 {
     match held.get(place) {
-        Some(held) => joins(alloc, past, admission, held),
-        None => Ok(false),
+        Some(held) => joins(past, admission, held),
+        None => false,
     }
 }
 
@@ -80,7 +69,7 @@ fn layer_among(
     let mut layer = Seq::new(alloc);
     let mut rest = places;
     while let [place, after @ ..] = rest {
-        let joins = joins_at(alloc, past, admission, held, *place)?;
+        let joins = joins_at(past, admission, held, *place);
         add_where(&mut layer, *place, joins)?;
         rest = after;
     }

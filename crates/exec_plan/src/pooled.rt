@@ -10,9 +10,9 @@ ghost use Rattle.exec_plan.specs.Waits.{IsWaiting};
 use crate::ready::{Ready, plan_ready};
 use crate::settled::settle;
 use crate::waiting::Waiting;
-use answer_types::Held;
 use dag_pool::{Gate, run_plan};
 use effects_core::HashedEffects;
+use protocol_spec::Held;
 use std::alloc::Global;
 use std::thread::Threads;
 use steal_board::Board;
@@ -28,11 +28,11 @@ fn workers_for(ready: &Ready<'_>, workers: u32) -> u32
     workers.min(ready.plan.tasks().max(1))
 }
 
-/// Executes, by 1 to 16 workers, all held certificates that are ready, and answers their effects in the order of the rounds
-/// (Sui Lutris; rounds are this profile's own). Each held certificate stands under its transaction's digest, and its
-/// transaction has a valid shape; no transaction is held twice. The gate is notified of each execution. The only error is that
-/// memory is refused: part of the rounds may then be executed, and nothing is promised of the store, but for its opening, and
-/// of what waits.
+/// Executes, by 1 to 16 workers, all held certificates that are ready, and answers their effects in the order of the
+/// rounds (Sui Lutris; rounds are this profile's own). Each held certificate stands under its transaction's digest, and
+/// its transaction has a valid shape; no transaction is held twice. The gate is notified of each execution, which no
+/// clause says. The only error is that memory is refused: part of the rounds may then be executed, and nothing is
+/// promised of the store, but for its opening, and of what waits.
 pub fn run_pooled<R: Threads + Sync, G: Gate + Sync>(
     rt: &R,
     alloc: Global,

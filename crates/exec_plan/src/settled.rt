@@ -16,11 +16,11 @@ use crate::past::Past;
 use crate::ready::{Ready, plan_ready};
 use crate::task::Outcome;
 use crate::waiting::Waiting;
-use answer_types::Held;
 use dag_core::evaluate_plain;
 use digest_core::Digest;
 use effects_core::HashedEffects;
 use indexmap::IndexSet;
+use protocol_spec::Held;
 use std::alloc::Global;
 use version_assign::Admission;
 use version_store::Store;
@@ -52,7 +52,7 @@ pub fn settle(
     ensures waiting { OnOk result (IsWaiting store.new admission.now.admission held.now waiting.new) }
     ensures opening { store.new.opening ≡ store.old.opening }
 {
-    let mut effects = Seq::new(alloc);
+    let mut effects = Seq::with_room(alloc, outputs.len())?;
     keep_all(
         alloc,
         store,

@@ -10,10 +10,10 @@ ghost use Rattle.exec_plan.specs.Drafts.{bare_task, with_give};
 ghost use Rattle.exec_plan.specs.Gathering.{gathered_after, is_lacking};
 ghost use Rattle.exec_plan.specs.Tasks.{carry_as, carry_of, first_carry, is_at, is_not_run, object_of, other_carries, outcome_of, outcome_with};
 
-use answer_types::Held;
 use chain_types::{HashedObject, Object, ObjectKey, Producer, owned_keys};
 use dag_core::Job;
 use digest_core::Digest;
+use protocol_spec::Held;
 use ptb_run::{HashedExecuted, execute_hashed, fits_hashed};
 use std::alloc::Global;
 use std::marker::Model;
@@ -139,7 +139,7 @@ fn add_object(objects: &mut Seq<HashedObject>, carry: &Carry) -> Result<(), OutO
 fn gather(alloc: Global, wants: &[Want], inputs: &[Carry]) -> Result<Gathered, OutOfMemory>
     ensures { IfOk result (λ gathered. gathered ≡ gathered_after [] wants.now inputs.now) }
 {
-    let mut objects = Seq::new(alloc);
+    let mut objects = Seq::with_room(alloc, wants.len() as u64)?;
     let mut left = inputs;
     let mut rest = wants;
     while let [want, after @ ..] = rest {
@@ -266,7 +266,7 @@ fn carries_of(
 ) -> Result<Seq<Carry>, OutOfMemory>
     ensures { IfOk result (λ carries. carries ≡ map (carry_of outcome.now) keys.now) }
 {
-    let mut carries = Seq::new(alloc);
+    let mut carries = Seq::with_room(alloc, keys.len() as u64)?;
     let mut rest = keys;
     while let [key, after @ ..] = rest {
         carries.push(carry_of(outcome, key))?;

@@ -3,7 +3,7 @@
 ghost use Rattle.std.specs.Prelude.{◌≡◌, ◌++◌, ◌∷◌, [], IfOk, OnErr, OnOk, Some, slice_get};
 ghost use Rattle.std.specs.List.Sorted.{IsStrictlySortedBy};
 ghost use Rattle.std.specs.Ordering.{nat_cmp};
-ghost use Rattle.answer_types.specs.declared.answers.Held.{Held as H};
+ghost use Rattle.protocol_spec.specs.declared.answers.Held.{Held as H};
 ghost use Rattle.protocol_spec.specs.Member.Admission.{Admission as A};
 ghost use Rattle.version_store.specs.Stores.{Stored};
 ghost use Rattle.exec_plan.specs.Behind.{Frees};
@@ -13,9 +13,9 @@ use crate::behind::{add_behind, free_behind};
 use crate::inputs::is_let;
 use crate::makers::awaited;
 use crate::past::Past;
-use answer_types::Held;
 use digest_core::Digest;
 use indexmap::{IndexMap, IndexSet};
+use protocol_spec::Held;
 use std::alloc::Global;
 use std::collections::BTreeSet;
 use version_assign::Admission;
@@ -68,7 +68,7 @@ impl Waiting {
         if !is_let(admission, held) {
             return add_behind(self.alloc, &mut self.unadmitted, held.digest, place);
         }
-        match awaited(self.alloc, past, admission, held)? {
+        match awaited(past, admission, held) {
             Some(tx) => add_behind(self.alloc, &mut self.behind, tx, place),
             None => {
                 self.next.insert(place)?;

@@ -12,7 +12,7 @@ use Rattle.checkpoint_core.specs.declared.checkpoints.Checkpoint.{Checkpoint}
 use Rattle.checkpoint_core.specs.declared.checkpoints.Item.{Item}
 use Rattle.effects_core.specs.declared.effects.Effects.{Effects}
 use Rattle.effects_core.specs.Effects.{digest_of_effects}
-use Rattle.answer_types.specs.declared.pieces.Executed.{Executed}
+use Rattle.protocol_spec.specs.declared.pieces.Executed.{Executed}
 use Rattle.protocol_spec.proofs.Equality.{digest_same}
 use Rattle.protocol_spec.proofs.Truth.{or_false_right, where_false}
 use Rattle.protocol_spec.specs.Chain.Keys.{fits}

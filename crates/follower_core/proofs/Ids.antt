@@ -10,7 +10,7 @@ use Rattle.chain_types.specs.declared.transactions.Input.TheVariants as inputs
 use Rattle.chain_types.specs.declared.transactions.Transaction.{Transaction}
 use Rattle.chain_types.specs.Digests.{is_object}
 use Rattle.chain_types.specs.Equal.{id_eq}
-use Rattle.answer_types.specs.declared.pieces.Executed.{Executed}
+use Rattle.protocol_spec.specs.declared.pieces.Executed.{Executed}
 use Rattle.protocol_spec.proofs.Equality.{id_same}
 use Rattle.protocol_spec.proofs.Truth.{or_assoc}
 use Rattle.protocol_spec.specs.Chain.Keys.{named_id, named_ids}

@@ -6,7 +6,7 @@ use Rattle.chain_types.specs.Digests.{transaction_digest}
 use Rattle.chain_types.specs.Equal.{digest_eq}
 use Rattle.checkpoint_core.specs.declared.checkpoints.Item.{Item}
 use Rattle.effects_core.specs.Effects.{digest_of_effects}
-use Rattle.answer_types.specs.declared.pieces.Executed.{Executed}
+use Rattle.protocol_spec.specs.declared.pieces.Executed.{Executed}
 use Rattle.protocol_spec.specs.Chain.Shape.{shape_fault}
 use Rattle.protocol_spec.specs.Chain.Tests.{has_digest}
 use Rattle.protocol_spec.specs.Chain.Words.{first_some, where_true}

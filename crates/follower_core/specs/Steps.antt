@@ -7,7 +7,7 @@ use Rattle.chain_types.specs.declared.transactions.Input.{Input}
 use Rattle.chain_types.specs.declared.transactions.Transaction.{Transaction}
 use Rattle.chain_types.specs.Digests.{is_object, transaction_digest}
 use Rattle.chain_types.specs.Equal.{id_eq}
-use Rattle.answer_types.specs.declared.pieces.Executed.{Executed}
+use Rattle.protocol_spec.specs.declared.pieces.Executed.{Executed}
 use Rattle.protocol_spec.specs.Chain.Keys.{named_id}
 use Rattle.protocol_spec.specs.Chain.Shape.{shape_fault}
 use Rattle.protocol_spec.specs.Chain.Tests.{has_digest, has_id}

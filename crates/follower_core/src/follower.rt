@@ -176,11 +176,4 @@ impl Follower {
     {
         self.tip.epoch
     }
-
-    /// Whether no memory was refused at an earlier checkpoint. Takes no memory.
-    pub fn is_up(&self) -> bool
-        ensures { result ≡ self.now.tip.up }
-    {
-        self.tip.up
-    }
 }

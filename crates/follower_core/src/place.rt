@@ -13,11 +13,11 @@ ghost use Rattle.follower_core.specs.Steps.{Stands, with_objects, without_ids};
 use crate::ledger::Ledger;
 use crate::refusals::FollowRefusal;
 use crate::standing::standing;
-use answer_types::Executed;
 use chain_types::{Object, ObjectId, Transaction, tx_digest};
 use checkpoint_core::Item;
 use digest_core::Digest;
 use effects_core::{Effects, effects_digest};
+use protocol_spec::Executed;
 use std::alloc::Global;
 use wire_bcs::OutOfMemory;
 

@@ -11,10 +11,10 @@ ghost use Rattle.follower_core.specs.Steps.{creates_in, good, named_after, stand
 
 use crate::ledger::Ledger;
 use crate::reading::read;
-use answer_types::Executed;
 use chain_types::{Input, Object, ObjectId, Transaction};
 use digest_core::Digest;
 use indexmap::IndexSet;
+use protocol_spec::Executed;
 use ptb_run::{execute, fits};
 use std::alloc::Global;
 use tx_check::{ShapeRefusal, check_shape, named_id, repeats_object};

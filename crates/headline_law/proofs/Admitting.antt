@@ -11,7 +11,7 @@ use Rattle.chain_types.specs.declared.transactions.Transaction.{Transaction}
 use Rattle.chain_types.specs.Equal.{digest_eq}
 use Rattle.chain_types.specs.Digests.{key_of}
 use Rattle.chain_messages.specs.Messages as messages
-use Rattle.answer_types.specs.declared.answers.Held.{Held}
+use Rattle.protocol_spec.specs.declared.answers.Held.{Held}
 use Rattle.schedule_text.specs.declared.words.Event.{Event}
 use Rattle.protocol_spec.proofs.Checked.{valid_length}
 use Rattle.protocol_spec.proofs.Equality.{digest_self}
@@ -29,16 +29,16 @@ use Rattle.world_spec.specs.Run.{world_after}
 use Rattle.world_spec.specs.Assumptions.{IsHonestRun, all_delivered}
 use Rattle.safety_law.proofs.Apart.{none-found}
 use Rattle.safety_law.proofs.Once.{has-push}
-use Rattle.sequence_law.proofs.Live.{has-any}
-use Rattle.sequence_law.proofs.Reading.{has-zip}
-use Rattle.agreement_law.specs.Agreed.{IsHeldAsGiven}
-use Rattle.agreement_law.specs.Explained.{IsExplained}
-use Rattle.agreement_law.proofs.Executing.{executions-explained, some-parts}
-use Rattle.agreement_law.proofs.Prefixes.{follows}
-use Rattle.agreement_law.proofs.SameSteps.{given-alike}
-use Rattle.agreement_law.proofs.Supply.{every-held, stocked}
-use Rattle.agreement_law.proofs.Turned.{has-all}
-use Rattle.agreement_law.proofs.Wants.{from-writer, nobody}
+use Rattle.block_law.proofs.Live.{has-any}
+use Rattle.block_law.proofs.ReadingSteps.{has-zip}
+use Rattle.safety_law.specs.Agreed.{IsHeldAsGiven}
+use Rattle.safety_law.specs.Explained.{IsExplained}
+use Rattle.safety_law.proofs.Executing.{executions-explained, some-parts}
+use Rattle.safety_law.proofs.Prefixes.{follows}
+use Rattle.safety_law.proofs.SameSteps.{given-alike}
+use Rattle.safety_law.proofs.Supply.{every-held, stocked}
+use Rattle.safety_law.proofs.Turned.{has-all}
+use Rattle.safety_law.proofs.Wants.{from-writer, nobody}
 use Rattle.protocol_spec.specs.Member.Votes.{shared_key}
 use Rattle.headline_law.specs.Stated.{IsSettled}
 use Rattle.headline_law.proofs.Dropping.{never-dropped, unshared, was-dropped}

@@ -5,7 +5,7 @@ use Rattle.digest_core.specs.declared.Digest.{Digest}
 use Rattle.chain_types.specs.declared.objects.ObjectId.{ObjectId}
 use Rattle.chain_types.specs.declared.objects.ObjectKey.{ObjectKey}
 use Rattle.chain_types.specs.declared.objects.Object.{Object}
-use Rattle.answer_types.specs.declared.pieces.Executed.{Executed}
+use Rattle.protocol_spec.specs.declared.pieces.Executed.{Executed}
 use Rattle.schedule_text.specs.declared.words.Event.{Event}
 use Rattle.protocol_spec.specs.Chain.Words.{Has}
 use Rattle.protocol_spec.specs.Chain.Keys.{object_key}
@@ -19,13 +19,13 @@ use Rattle.block_law.specs.Names.{drawn_id}
 use Rattle.block_law.specs.Shared.{shared_since}
 use Rattle.safety_law.proofs.Forks.{all-front}
 use Rattle.safety_law.proofs.Fronts.{honest-front}
-use Rattle.agreement_law.proofs.Same.{of-run}
-use Rattle.agreement_law.proofs.Agreeing.{one-key}
-use Rattle.sequence_law.specs.Orderly.{AreApart}
-use Rattle.agreement_law.specs.Orderly.{OpensApart}
-use Rattle.agreement_law.proofs.Known.{opens-apart}
-use Rattle.agreement_law.specs.AgreedEpochs.{Agree}
-use Rattle.agreement_law.proofs.AgreedEpochs.{members-agree}
+use Rattle.safety_law.proofs.Same.{of-run}
+use Rattle.safety_law.proofs.Agreeing.{one-key}
+use Rattle.block_law.specs.Orderly.{AreApart}
+use Rattle.safety_law.specs.Orderly.{OpensApart}
+use Rattle.safety_law.proofs.Known.{opens-apart}
+use Rattle.safety_law.specs.AgreedEpochs.{Agree}
+use Rattle.safety_law.proofs.AgreedEpochs.{members-agree}
 use Rattle.headline_law.proofs.Fitting.{one-id, writes-once}
 use Rattle.headline_law.specs.Shared.{ShareAlike}
 use Rattle.headline_law.proofs.Roots.{HasFirst, IsMadeFirst, IsOfRun, of-this-run, version-first}

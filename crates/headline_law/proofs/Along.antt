@@ -6,7 +6,7 @@ use Rattle.chain_types.specs.declared.objects.Object.{Object}
 use Rattle.checkpoint_core.specs.declared.checkpoints.Checkpoint.{Checkpoint}
 use Rattle.journal_core.specs.declared.records.Record.{Record}
 use Rattle.journal_core.specs.declared.records.Record.TheVariants as record_as
-use Rattle.answer_types.specs.declared.answers.Held.{Held}
+use Rattle.protocol_spec.specs.declared.answers.Held.{Held}
 use Rattle.protocol_spec.proofs.ListLemmas.{front_whole, front_then}
 use Rattle.protocol_spec.specs.Chain.Words.{Has, IsFront}
 use Rattle.protocol_spec.specs.Chain.Certificates.{Rules}

@@ -13,7 +13,7 @@ use Rattle.chain_types.specs.declared.transactions.Transaction.{Transaction}
 use Rattle.chain_types.specs.Equal.{digest_eq, id_eq, key_eq}
 use Rattle.chain_types.specs.Digests.{is_object}
 use Rattle.chain_messages.specs.declared.messages.Certificate.{Certificate}
-use Rattle.answer_types.specs.declared.answers.Held.{Held}
+use Rattle.protocol_spec.specs.declared.answers.Held.{Held}
 use Rattle.schedule_text.specs.declared.words.Event.{Event}
 use Rattle.protocol_spec.proofs.Equality.{digest_same, id_same, digest_self, id_self}
 use Rattle.protocol_spec.specs.Chain.Words.{Has, Along, first_some, first_of, where_true, last_where}
@@ -30,20 +30,20 @@ use Rattle.world_spec.specs.World.{Seat, member_in}
 use Rattle.world_spec.specs.Run.{world_after}
 use Rattle.world_spec.specs.Assumptions.{IsHonestRun, all_delivered}
 use Rattle.safety_law.proofs.Apart.{none-of}
-use Rattle.sequence_law.proofs.Live.{passed-has, any-has}
-use Rattle.sequence_law.specs.Admitted.{held_again, IsInOrder}
+use Rattle.block_law.proofs.Live.{passed-has, any-has}
+use Rattle.block_law.specs.Admitted.{held_again, IsInOrder}
 use Rattle.block_law.proofs.Places.{shared-written}
 use Rattle.block_law.proofs.Written.{chosen-from, fits-first}
-use Rattle.agreement_law.specs.Agreed.{IsHeldAsGiven}
-use Rattle.agreement_law.proofs.Supply.{every-held, every-admission}
-use Rattle.sequence_law.specs.Orderly.{AreApart, gave}
-use Rattle.sequence_law.proofs.Reading.{has-zip}
-use Rattle.agreement_law.specs.Steps.{step_of}
-use Rattle.agreement_law.proofs.Lists.{has-middle, along-split, first-says}
-use Rattle.agreement_law.proofs.SameSteps.{given-alike}
-use Rattle.agreement_law.proofs.Executed.{admitted-given, executed-is-step}
-use Rattle.agreement_law.proofs.Versions.{versions-same, effects-version}
-use Rattle.agreement_law.proofs.Wants.{assigned-is, shared-wanted}
+use Rattle.safety_law.specs.Agreed.{IsHeldAsGiven}
+use Rattle.safety_law.proofs.Supply.{every-held, every-admission}
+use Rattle.block_law.specs.Orderly.{AreApart, gave}
+use Rattle.block_law.proofs.ReadingSteps.{has-zip}
+use Rattle.safety_law.specs.Steps.{step_of}
+use Rattle.safety_law.proofs.Lists.{has-middle, along-split, first-says}
+use Rattle.safety_law.proofs.SameSteps.{given-alike}
+use Rattle.safety_law.proofs.Executed.{admitted-given, executed-is-step}
+use Rattle.safety_law.proofs.Versions.{versions-same, effects-version}
+use Rattle.safety_law.proofs.Wants.{assigned-is, shared-wanted}
 use Rattle.headline_law.proofs.Present.{has-find, some-mapped, opened-in, written-in, held-found, seen-in, voted-given}
 use Rattle.headline_law.proofs.Whole.{any-none}
 use Rattle.headline_law.specs.Ready.{wanted_of}

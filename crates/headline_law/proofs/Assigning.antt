@@ -5,16 +5,16 @@ use Rattle.chain_types.specs.declared.objects.ObjectId.{ObjectId}
 use Rattle.chain_types.specs.declared.objects.Object.{Object}
 use Rattle.chain_types.specs.declared.transactions.Input.{Input}
 use Rattle.chain_types.specs.declared.transactions.Input.TheVariants as inputs
-use Rattle.answer_types.specs.declared.answers.Assigned.{Assigned}
+use Rattle.protocol_spec.specs.declared.answers.Assigned.{Assigned}
 use Rattle.protocol_spec.specs.Chain.Words.{Has, Along}
 use Rattle.protocol_spec.specs.Chain.Certificates.{Rules}
 use Rattle.protocol_spec.specs.Chain.Keys.{objects_of}
 use Rattle.protocol_spec.proofs.ListLemmas.{along-push}
 use Rattle.protocol_spec.specs.Member.Admission.{Admitted, writes, assigned_to, assignment, current, admit}
 use Rattle.protocol_spec.specs.Member.Sequence.{seen}
-use Rattle.sequence_law.specs.Admitted.{IsInOrder}
-use Rattle.sequence_law.proofs.Tidy.{tidy-seen}
-use Rattle.agreement_law.proofs.Lists.{along-split}
+use Rattle.block_law.specs.Admitted.{IsInOrder}
+use Rattle.block_law.proofs.Tidy.{tidy-seen}
+use Rattle.safety_law.proofs.Lists.{along-split}
 use Rattle.headline_law.specs.Assigned.{IsAssignedAbove}
 use Rattle.headline_law.proofs.Rising.{writes-it, rising}
 use Rattle.block_law.proofs.Written.{chosen-from}

@@ -12,8 +12,8 @@ use Rattle.chain_messages.specs.declared.messages.Certificate.{Certificate}
 use Rattle.chain_messages.specs.declared.messages.Entry.{Entry}
 use Rattle.journal_core.specs.declared.records.Record.{Record}
 use Rattle.journal_core.specs.declared.records.Record.TheVariants as record_as
-use Rattle.answer_types.specs.declared.refusals.VoteRefusal.{VoteRefusal}
-use Rattle.answer_types.specs.declared.refusals.VoteRefusal.TheVariants as no_vote
+use Rattle.protocol_spec.specs.declared.refusals.VoteRefusal.{VoteRefusal}
+use Rattle.protocol_spec.specs.declared.refusals.VoteRefusal.TheVariants as no_vote
 use Rattle.schedule_text.specs.declared.words.Event.{Event}
 use Rattle.schedule_text.specs.declared.words.Event.TheVariants as event
 use Rattle.protocol_spec.proofs.ListLemmas.{each_join, each_at}
@@ -32,8 +32,8 @@ use Rattle.safety_law.proofs.InWorld.{each-any, kept-line, new-seats}
 use Rattle.safety_law.proofs.Apart.{due-free}
 use Rattle.safety_law.proofs.Once.{has-push}
 use Rattle.safety_law.proofs.Grown.{world-append}
-use Rattle.agreement_law.proofs.Appends.{a_vote, appended_as, appended_by, due-appends}
-use Rattle.agreement_law.proofs.OneCall.{one-call}
+use Rattle.safety_law.proofs.Appends.{a_vote, appended_as, appended_by, due-appends}
+use Rattle.safety_law.proofs.OneCall.{one-call}
 use Rattle.headline_law.specs.Cast.{WasCast}
 
 -- ---- the origins of a new vote

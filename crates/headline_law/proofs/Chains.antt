@@ -6,7 +6,7 @@ use Rattle.chain_types.specs.declared.objects.ObjectKey.{ObjectKey}
 use Rattle.chain_types.specs.declared.objects.Object.{Object}
 use Rattle.chain_types.specs.declared.transactions.Input.{Input}
 use Rattle.chain_types.specs.Digests.{transaction_digest}
-use Rattle.answer_types.specs.declared.pieces.Executed.{Executed}
+use Rattle.protocol_spec.specs.declared.pieces.Executed.{Executed}
 use Rattle.schedule_text.specs.declared.words.Event.{Event}
 use Rattle.protocol_spec.proofs.ListLemmas.{has_left, has_right, has_map, flat_has}
 use Rattle.protocol_spec.specs.Chain.Words.{Has}
@@ -16,8 +16,8 @@ use Rattle.protocol_spec.specs.Member.Rounds.{executes_as}
 use Rattle.protocol_spec.specs.Member.Member.{Member}
 use Rattle.world_spec.specs.Setting.{Setting}
 use Rattle.world_spec.specs.Assumptions.{IsHonestRun}
-use Rattle.sequence_law.specs.Orderly.{Step, gave, AreApart}
-use Rattle.agreement_law.specs.Orderly.{OpensApart}
+use Rattle.block_law.specs.Orderly.{Step, gave, AreApart}
+use Rattle.safety_law.specs.Orderly.{OpensApart}
 use Rattle.headline_law.proofs.Present.{IsOpened, IsWrote, version-from}
 use Rattle.headline_law.specs.Chained.{MayWrite, IsExecutedAs, Holds, IsPassedOn, AreOneChain}
 use Rattle.headline_law.proofs.Family.{IsThere, IsFamily}

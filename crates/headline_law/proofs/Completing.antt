@@ -1,8 +1,8 @@
 -- What is ready before a run, or after some of its rounds, is executed by it, if nothing keeps it out of its round.
 use Rattle.std.proofs.Common.{inl, inr, refl, sym, subst, ap, append_assoc, append-nil, ◌∙◌}
 use Rattle.std.specs.Prelude.{◌≡◌, ◌⊎◌, ℕ, zero, suc, Bool, true, false, cond, nat_le, List, [], ◌∷◌, ◌++◌, length, Option, Some, None, option_map, Ok}
-use Rattle.answer_types.specs.declared.answers.Held.{Held}
-use Rattle.answer_types.specs.declared.refusals.RunRefusal.TheVariants as no_run
+use Rattle.protocol_spec.specs.declared.answers.Held.{Held}
+use Rattle.protocol_spec.specs.declared.refusals.RunRefusal.TheVariants as no_run
 use Rattle.protocol_spec.proofs.ListLemmas.{push_has, has_left, has_right, has_map}
 use Rattle.protocol_spec.specs.Chain.Words.{Has, first_some, unless_refused, where_true}
 use Rattle.protocol_spec.specs.Chain.Certificates.{Rules}
@@ -10,7 +10,7 @@ use Rattle.protocol_spec.specs.Member.Versions.{Execution}
 use Rattle.protocol_spec.specs.Member.Rounds.{Books, clashes, ready, round_add, round_among, round_of, rounds, rounds_within}
 use Rattle.protocol_spec.specs.Member.Member.{Fork, Member, books, fork_of, with_rounds}
 use Rattle.protocol_spec.specs.Member.Calls.{effects_of, ran_as, record_limit, run_answer}
-use Rattle.agreement_law.proofs.Lists.{has-split}
+use Rattle.safety_law.proofs.Lists.{has-split}
 use Rattle.headline_law.specs.Runs.{CompletesRuns, IsKeptOut, IsKeptOutBehind, RoundsTakeReady, RunsAs}
 use Rattle.headline_law.proofs.Rounds.{among-more, nothing-ready}
 

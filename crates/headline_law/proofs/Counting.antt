@@ -11,8 +11,8 @@ use Rattle.chain_messages.specs.declared.messages.Entry.{Entry}
 use Rattle.chain_messages.specs.declared.messages.Entry.TheVariants as entry
 use Rattle.journal_core.specs.declared.records.Record.{Record}
 use Rattle.journal_core.specs.declared.records.Record.TheVariants as record_as
-use Rattle.answer_types.specs.declared.answers.Ignore.{Ignore}
-use Rattle.answer_types.specs.declared.answers.Ignore.TheVariants as ignore
+use Rattle.protocol_spec.specs.declared.answers.Ignore.{Ignore}
+use Rattle.protocol_spec.specs.declared.answers.Ignore.TheVariants as ignore
 use Rattle.schedule_text.specs.declared.words.Event.{Event}
 use Rattle.chain_types.specs.Digests.{transaction_digest}
 use Rattle.protocol_spec.specs.Chain.Words.{Has, Each, first_some, where_true}
@@ -32,7 +32,7 @@ use Rattle.safety_law.proofs.Apart.{state-push}
 use Rattle.safety_law.proofs.Once.{has-push}
 use Rattle.safety_law.proofs.Totals.{each-all}
 use Rattle.safety_law.proofs.Grown.{IsGrown, grown-run}
-use Rattle.agreement_law.proofs.Prefixes.{IsSee, due-see}
+use Rattle.safety_law.proofs.Prefixes.{IsSee, due-see}
 
 -- the sealed statements that are read from a call were delivered
 abbrev BringsEnds : Rules → List Sealed → Call → Type 0

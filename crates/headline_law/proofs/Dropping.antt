@@ -12,7 +12,7 @@ use Rattle.chain_types.specs.Digests.{is_object, lamport_version}
 use Rattle.chain_messages.specs.declared.messages.Certificate.{Certificate}
 use Rattle.journal_core.specs.declared.records.Record.{Record}
 use Rattle.journal_core.specs.declared.records.Record.TheVariants as record_as
-use Rattle.answer_types.specs.declared.answers.Held.{Held}
+use Rattle.protocol_spec.specs.declared.answers.Held.{Held}
 use Rattle.schedule_text.specs.declared.words.Event.{Event}
 use Rattle.protocol_spec.specs.Chain.Words.{Has, Each}
 use Rattle.protocol_spec.specs.Chain.Keys.{has_shared_input, is_shared_input, objects_of, version_limit}
@@ -31,10 +31,10 @@ use Rattle.world_spec.specs.Assumptions.{all_delivered, entry_certificates, read
 use Rattle.safety_law.proofs.InWorld.{in_world_given}
 use Rattle.safety_law.proofs.Apart.{none-each, state-push}
 use Rattle.safety_law.proofs.Once.{has-push}
-use Rattle.sequence_law.proofs.Reading.{has-zip, has-kept}
-use Rattle.agreement_law.specs.Agreed.{IsHeldAsGiven}
-use Rattle.agreement_law.proofs.Prefixes.{IsSee, due-see}
-use Rattle.agreement_law.proofs.Supply.{Delivers, IsSupplied, Stocked, after-stocked, delivers-run, none-stocked}
+use Rattle.block_law.proofs.ReadingSteps.{has-zip, has-kept}
+use Rattle.safety_law.specs.Agreed.{IsHeldAsGiven}
+use Rattle.safety_law.proofs.Prefixes.{IsSee, due-see}
+use Rattle.safety_law.proofs.Supply.{Delivers, IsSupplied, Stocked, after-stocked, delivers-run, none-stocked}
 
 -- ---- what an entry takes was given
 

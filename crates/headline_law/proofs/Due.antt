@@ -2,7 +2,7 @@
 use Rattle.std.proofs.Common.{inl, inr, refl, subst, ap}
 use Rattle.std.specs.Prelude.{◌≡◌, ℕ, Bool, true, false, cond, List, [], ◌∷◌, ◌++◌, map, filter, slice_get, Some}
 use Rattle.chain_types.specs.declared.objects.ObjectKey.{ObjectKey}
-use Rattle.answer_types.specs.declared.answers.Held.{Held}
+use Rattle.protocol_spec.specs.declared.answers.Held.{Held}
 use Rattle.schedule_text.specs.declared.words.Event.{Event}
 use Rattle.protocol_spec.specs.Chain.Words.{Has}
 use Rattle.protocol_spec.specs.Block.Execution.{execution, written_keys}
@@ -13,7 +13,7 @@ use Rattle.world_spec.specs.Setting.{Setting}
 use Rattle.world_spec.specs.World.{Seat, member_in}
 use Rattle.world_spec.specs.Run.{world_after}
 use Rattle.world_spec.specs.Assumptions.{IsHonestRun}
-use Rattle.sequence_law.specs.Orderly.{AreApart}
+use Rattle.block_law.specs.Orderly.{AreApart}
 use Rattle.headline_law.specs.Complete.{MayExecute, IsReady}
 use Rattle.headline_law.specs.Runs.{IsRunOut}
 use Rattle.headline_law.proofs.Ready.{due-idle, due-may, due-have}

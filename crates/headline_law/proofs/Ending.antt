@@ -3,16 +3,16 @@ use Rattle.std.proofs.Common.{refl, sym, ap, arith, ◌∙◌, append-nil}
 use Rattle.std.proofs.lemmas.List.{length-append, length-drop}
 use Rattle.std.specs.Prelude.{◌≡◌, ◌≤◌, ℕ, zero, suc, Bool, true, false, cond, List, [], ◌∷◌, ◌++◌, flat_map, find, fold, length, Option, Some, None}
 use Rattle.chain_types.specs.declared.objects.Object.{Object}
-use Rattle.answer_types.specs.declared.answers.Held.{Held}
+use Rattle.protocol_spec.specs.declared.answers.Held.{Held}
 use Rattle.protocol_spec.proofs.ListLemmas.{front_length, flat_append}
 use Rattle.protocol_spec.specs.Chain.Words.{IsFront}
 use Rattle.protocol_spec.specs.Chain.Committee.{weight, is_quorum}
 use Rattle.protocol_spec.specs.Chain.Certificates.{Rules}
 use Rattle.protocol_spec.specs.Member.Admission.{Admission, entered, is_dropped, is_free, passed_mark, since_mark, take_free, taken, taken_as, taken_next}
 use Rattle.protocol_spec.specs.Member.Sequence.{Cut, Sequence, What, takes, commits, counts, ignores, nothing_seen, what_of, cut_of, last_cut, counted_as, ends_with_member, with_what, with_entry, saw, seen}
-use Rattle.agreement_law.specs.Checkpointed.{admitted_in}
-use Rattle.agreement_law.proofs.Cuts.{cut-seen, cut-txs}
-use Rattle.agreement_law.proofs.Prefixes.{earlier-saw}
+use Rattle.safety_law.specs.Checkpointed.{admitted_in}
+use Rattle.safety_law.proofs.Cuts.{cut-seen, cut-txs}
+use Rattle.safety_law.proofs.Prefixes.{earlier-saw}
 use Rattle.headline_law.specs.Ended.{IsWhole}
 
 -- ---- the cuts

@@ -6,7 +6,7 @@ use Rattle.chain_types.specs.declared.objects.Object.{Object}
 use Rattle.chain_types.specs.declared.transactions.Input.{Input}
 use Rattle.chain_types.specs.declared.transactions.Transaction.{Transaction}
 use Rattle.chain_types.specs.Digests.{transaction_digest}
-use Rattle.answer_types.specs.declared.pieces.Executed.{Executed}
+use Rattle.protocol_spec.specs.declared.pieces.Executed.{Executed}
 use Rattle.schedule_text.specs.declared.words.Event.{Event}
 use Rattle.protocol_spec.proofs.Truth.{some_same}
 use Rattle.protocol_spec.specs.Chain.Words.{Has}
@@ -16,9 +16,9 @@ use Rattle.protocol_spec.specs.Member.Rounds.{executes_as}
 use Rattle.protocol_spec.specs.Member.Member.{Member}
 use Rattle.world_spec.specs.Setting.{Setting}
 use Rattle.world_spec.specs.Assumptions.{IsHonestRun}
-use Rattle.sequence_law.specs.Orderly.{Step, gave, Makes, IsOpening, AreApart}
-use Rattle.agreement_law.specs.Orderly.{OpensApart}
-use Rattle.agreement_law.proofs.SameSteps.{given-alike}
+use Rattle.block_law.specs.Orderly.{Step, gave, Makes, IsOpening, AreApart}
+use Rattle.safety_law.specs.Orderly.{OpensApart}
+use Rattle.safety_law.proofs.SameSteps.{given-alike}
 use Rattle.headline_law.specs.Chained.{MayWrite, IsExecutedAs}
 use Rattle.headline_law.proofs.Family.{IsSame, IsThere, IsFamily}
 use Rattle.headline_law.proofs.Settled.{IsSettled, ArePeers}

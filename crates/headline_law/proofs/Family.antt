@@ -9,7 +9,7 @@ use Rattle.chain_types.specs.Digests.{transaction_digest}
 use Rattle.protocol_spec.specs.Chain.Words.{Has, repeats}
 use Rattle.protocol_spec.specs.Chain.Keys.{objects_of, named_ids, fits}
 use Rattle.block_law.specs.Names.{drawn_ids}
-use Rattle.sequence_law.specs.Orderly.{Step, gave, Makes, IsOpening, AreApart}
+use Rattle.block_law.specs.Orderly.{Step, gave, Makes, IsOpening, AreApart}
 use Rattle.headline_law.specs.Chained.{MayWrite}
 
 -- of one transaction, with what it gave

@@ -9,10 +9,10 @@ use Rattle.chain_types.specs.declared.transactions.Input.{Input}
 use Rattle.chain_types.specs.declared.transactions.Input.TheVariants as inputs
 use Rattle.chain_types.specs.Equal.{digest_eq, id_eq}
 use Rattle.chain_messages.specs.declared.messages.Certificate.{Certificate}
-use Rattle.answer_types.specs.declared.answers.Held.{Held}
-use Rattle.answer_types.specs.declared.answers.Ran.{Ran}
-use Rattle.answer_types.specs.declared.refusals.TurnRefusal.{TurnRefusal}
-use Rattle.answer_types.specs.declared.refusals.TurnRefusal.TheVariants as no_turn
+use Rattle.protocol_spec.specs.declared.answers.Held.{Held}
+use Rattle.protocol_spec.specs.declared.answers.Ran.{Ran}
+use Rattle.protocol_spec.specs.declared.refusals.TurnRefusal.{TurnRefusal}
+use Rattle.protocol_spec.specs.declared.refusals.TurnRefusal.TheVariants as no_turn
 use Rattle.schedule_text.specs.declared.words.Event.{Event}
 use Rattle.protocol_spec.proofs.Equality.{digest_same, digest_self}
 use Rattle.protocol_spec.proofs.ListLemmas.{each_has, has_left, has_parts, has_mapped, flat_has}
@@ -32,17 +32,17 @@ use Rattle.world_spec.specs.Run.{world_after}
 use Rattle.world_spec.specs.Assumptions.{IsHonestRun, all_delivered}
 use Rattle.safety_law.proofs.Once.{has-push}
 use Rattle.safety_law.proofs.Totals.{each-all}
-use Rattle.sequence_law.proofs.Live.{any-has, has-any}
-use Rattle.sequence_law.specs.Admitted.{IsInOrder, is_origin_in}
-use Rattle.agreement_law.specs.Agreed.{IsHeldAsGiven}
-use Rattle.agreement_law.proofs.Supply.{every-held, every-admission}
-use Rattle.sequence_law.specs.Orderly.{AreApart}
-use Rattle.agreement_law.specs.Checkpointed.{admitted_in, IsBuilt}
-use Rattle.agreement_law.proofs.Lists.{has-middle, all-has, first-says}
-use Rattle.agreement_law.proofs.SameSteps.{given-alike}
-use Rattle.agreement_law.proofs.Executed.{admitted-given}
-use Rattle.agreement_law.proofs.Checkpointed.{all-cut}
-use Rattle.agreement_law.proofs.Turned.{has-all}
+use Rattle.block_law.proofs.Live.{any-has, has-any}
+use Rattle.block_law.specs.Admitted.{IsInOrder, is_origin_in}
+use Rattle.safety_law.specs.Agreed.{IsHeldAsGiven}
+use Rattle.safety_law.proofs.Supply.{every-held, every-admission}
+use Rattle.block_law.specs.Orderly.{AreApart}
+use Rattle.safety_law.specs.Checkpointed.{admitted_in, IsBuilt}
+use Rattle.safety_law.proofs.Lists.{has-middle, all-has, first-says}
+use Rattle.safety_law.proofs.SameSteps.{given-alike}
+use Rattle.safety_law.proofs.Executed.{admitted-given}
+use Rattle.safety_law.proofs.Checkpointed.{all-cut}
+use Rattle.safety_law.proofs.Turned.{has-all}
 use Rattle.headline_law.specs.Runs.{HasNothingToWaitFor}
 use Rattle.headline_law.proofs.Undropped.{IsKept, none-dropped}
 use Rattle.headline_law.proofs.AssignedShared.{along-both, last-has, IsAdmittedAs, wanted-current}

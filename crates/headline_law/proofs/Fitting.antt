@@ -11,8 +11,8 @@ use Rattle.chain_types.specs.declared.transactions.Transaction.{Transaction}
 use Rattle.chain_types.specs.declared.refusals.DecideRefusal.TheVariants as refused
 use Rattle.chain_types.specs.Equal.{digest_eq, id_eq, key_eq}
 use Rattle.chain_types.specs.Digests.{digest_of_object, key_of, transaction_digest}
-use Rattle.answer_types.specs.declared.pieces.Executed.{Executed}
-use Rattle.answer_types.specs.declared.answers.Held.{Held}
+use Rattle.protocol_spec.specs.declared.pieces.Executed.{Executed}
+use Rattle.protocol_spec.specs.declared.answers.Held.{Held}
 use Rattle.schedule_text.specs.declared.words.Event.{Event}
 use Rattle.protocol_spec.specs.Chain.Words.{Has, repeats, where_true}
 use Rattle.protocol_spec.specs.Chain.Keys.{object_key, objects_of, is_address, is_owned_by, is_immutable, fits_input}
@@ -28,14 +28,14 @@ use Rattle.world_spec.specs.World.{Seat, member_in}
 use Rattle.world_spec.specs.Run.{world_after}
 use Rattle.world_spec.specs.Assumptions.{IsHonestRun}
 use Rattle.safety_law.proofs.Apart.{none-each, none-of}
-use Rattle.agreement_law.specs.Explained.{IsExplained}
-use Rattle.agreement_law.proofs.Executing.{executions-explained}
-use Rattle.agreement_law.proofs.Agreeing.{one-key, both-key}
-use Rattle.sequence_law.specs.Orderly.{AreApart}
-use Rattle.sequence_law.proofs.Standing.{stands-opening}
-use Rattle.agreement_law.proofs.Lists.{along-split}
-use Rattle.agreement_law.proofs.Wants.{found-as, from-opening, from-writer}
-use Rattle.agreement_law.proofs.Known.{opens-apart}
+use Rattle.safety_law.specs.Explained.{IsExplained}
+use Rattle.safety_law.proofs.Executing.{executions-explained}
+use Rattle.safety_law.proofs.Agreeing.{one-key, both-key}
+use Rattle.block_law.specs.Orderly.{AreApart}
+use Rattle.block_law.proofs.Standing.{stands-opening}
+use Rattle.safety_law.proofs.Lists.{along-split}
+use Rattle.safety_law.proofs.Wants.{found-as, from-opening, from-writer}
+use Rattle.safety_law.proofs.Known.{opens-apart}
 use Rattle.protocol_spec.specs.Member.Sequential.{map_of}
 use Rattle.std.specs.FinMap.{get}
 use Rattle.headline_law.specs.Present.{FitsAsNamed}

@@ -5,8 +5,8 @@ use Rattle.std.specs.Prelude.{◌≡◌, ◌⊎◌, ℕ, true, List, [], ◌∷�
 use Rattle.std.specs.List.{list_any}
 use Rattle.chain_types.specs.declared.objects.Object.{Object}
 use Rattle.chain_types.specs.declared.objects.ObjectKey.{ObjectKey}
-use Rattle.answer_types.specs.declared.answers.Held.{Held}
-use Rattle.answer_types.specs.declared.answers.Ran.{Ran}
+use Rattle.protocol_spec.specs.declared.answers.Held.{Held}
+use Rattle.protocol_spec.specs.declared.answers.Ran.{Ran}
 use Rattle.schedule_text.specs.declared.words.Event.{Event}
 use Rattle.protocol_spec.proofs.Executions.{versions_more}
 use Rattle.protocol_spec.proofs.ListLemmas.{has_left, has_right}
@@ -21,9 +21,9 @@ use Rattle.world_spec.specs.Setting.{Setting}
 use Rattle.world_spec.specs.World.{Seat, member_in}
 use Rattle.world_spec.specs.Run.{world_after}
 use Rattle.world_spec.specs.Assumptions.{IsHonestRun}
-use Rattle.sequence_law.proofs.Live.{any-has}
-use Rattle.sequence_law.specs.Orderly.{AreApart}
-use Rattle.agreement_law.proofs.Executing.{all-found}
+use Rattle.block_law.proofs.Live.{any-has}
+use Rattle.block_law.specs.Orderly.{AreApart}
+use Rattle.safety_law.proofs.Executing.{all-found}
 use Rattle.headline_law.specs.Runs.{IsKeptOut, ready_behind}
 use Rattle.headline_law.proofs.Behind.{IsRunOn, run-on, start_and_run}
 use Rattle.headline_law.proofs.Completing.{among-append, is-one-round, what-is-ready}

@@ -9,8 +9,8 @@ use Rattle.chain_types.specs.declared.objects.ObjectKey.{ObjectKey}
 use Rattle.chain_types.specs.declared.objects.Object.{Object}
 use Rattle.chain_types.specs.Equal.{id_eq, key_eq, digest_eq}
 use Rattle.chain_types.specs.Digests.{transaction_digest}
-use Rattle.answer_types.specs.declared.pieces.Executed.{Executed}
-use Rattle.answer_types.specs.declared.answers.Held.{Held}
+use Rattle.protocol_spec.specs.declared.pieces.Executed.{Executed}
+use Rattle.protocol_spec.specs.declared.answers.Held.{Held}
 use Rattle.schedule_text.specs.declared.words.Event.{Event}
 use Rattle.protocol_spec.proofs.Equality.{id_same, digest_self}
 use Rattle.protocol_spec.specs.Chain.Words.{Has, repeats, where_true}
@@ -25,10 +25,10 @@ use Rattle.world_spec.specs.Setting.{Setting}
 use Rattle.world_spec.specs.World.{Seat, member_in}
 use Rattle.world_spec.specs.Run.{world_after}
 use Rattle.world_spec.specs.Assumptions.{IsHonestRun}
-use Rattle.sequence_law.proofs.Live.{any-has}
-use Rattle.sequence_law.specs.Orderly.{Step, gave, id_of, AreApart}
-use Rattle.agreement_law.specs.Orderly.{OpensApart}
-use Rattle.agreement_law.proofs.Known.{opens-apart}
+use Rattle.block_law.proofs.Live.{any-has}
+use Rattle.block_law.specs.Orderly.{Step, gave, id_of, AreApart}
+use Rattle.safety_law.specs.Orderly.{OpensApart}
+use Rattle.safety_law.proofs.Known.{opens-apart}
 use Rattle.headline_law.proofs.Present.{has-find, IsOpened, IsWrote, version-from}
 use Rattle.headline_law.proofs.Family.{IsFamily}
 use Rattle.headline_law.proofs.Linked.{all-writers, above-opening, gave-once}

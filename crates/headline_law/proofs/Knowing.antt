@@ -5,14 +5,14 @@ use Rattle.std.specs.List.{list_any}
 use Rattle.digest_core.specs.declared.Digest.{Digest}
 use Rattle.chain_types.specs.declared.objects.Object.{Object}
 use Rattle.chain_types.specs.Equal.{digest_eq}
-use Rattle.answer_types.specs.declared.answers.Held.{Held}
+use Rattle.protocol_spec.specs.declared.answers.Held.{Held}
 use Rattle.protocol_spec.proofs.Equality.{digest_same, digest_self}
 use Rattle.protocol_spec.proofs.ListLemmas.{push_has, has_left}
 use Rattle.protocol_spec.specs.Chain.Words.{Has}
 use Rattle.protocol_spec.specs.Chain.Certificates.{Rules}
 use Rattle.protocol_spec.specs.Member.Admission.{Admitted, Admission, admit, entered, is_admitted, is_dropped, is_free, is_known, not_of, passed_mark, take_free, taken, taken_as, taken_next}
 use Rattle.protocol_spec.specs.Member.Sequence.{Sequence, What, takes, commits, counts, ignores, what_of, counted_as, ends_with_member, with_what, with_entry, saw}
-use Rattle.sequence_law.proofs.Live.{passed-has, any-has, has-any}
+use Rattle.block_law.proofs.Live.{passed-has, any-has, has-any}
 
 -- it was admitted, dropped, or waits
 abbrev pub IsIn : Admission → Digest → Type 0

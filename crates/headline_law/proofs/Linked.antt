@@ -9,7 +9,7 @@ use Rattle.chain_types.specs.declared.objects.Object.{Object}
 use Rattle.chain_types.specs.declared.transactions.Input.{Input}
 use Rattle.chain_types.specs.Equal.{id_eq}
 use Rattle.chain_types.specs.Digests.{transaction_digest}
-use Rattle.answer_types.specs.declared.pieces.Executed.{Executed}
+use Rattle.protocol_spec.specs.declared.pieces.Executed.{Executed}
 use Rattle.protocol_spec.proofs.Executions.{effects_tx}
 use Rattle.protocol_spec.specs.Chain.Words.{Has, numbers_below, repeats}
 use Rattle.protocol_spec.specs.Chain.Keys.{objects_of, named_ids, version_of}
@@ -19,12 +19,12 @@ use Rattle.protocol_spec.specs.Member.Sequential.{map_of, map_after}
 use Rattle.block_law.specs.Names.{drawn_id, drawn_ids, touched_ids}
 use Rattle.block_law.proofs.Effects.{objects-ids}
 use Rattle.block_law.proofs.Written.{below, fits-first, second as has-second}
-use Rattle.sequence_law.specs.Orderly.{Step, gave, id_of, Makes, AreApart}
-use Rattle.sequence_law.proofs.Standing.{stands-after, stands-opening}
-use Rattle.sequence_law.proofs.Touched.{IsReplaced, IsTouched, touched-object, written-version, above}
-use Rattle.sequence_law.proofs.Reading.{given-once}
-use Rattle.agreement_law.proofs.Ordered.{repeats-append, input-of}
-use Rattle.agreement_law.proofs.Versions.{effects-version}
+use Rattle.block_law.specs.Orderly.{Step, gave, id_of, Makes, AreApart}
+use Rattle.block_law.proofs.Standing.{stands-after, stands-opening}
+use Rattle.block_law.proofs.Touched.{IsReplaced, IsTouched, touched-object, written-version, above}
+use Rattle.block_law.proofs.ReadingSteps.{given-once}
+use Rattle.safety_law.proofs.Ordered.{repeats-append, input-of}
+use Rattle.safety_law.proofs.Versions.{effects-version}
 use Rattle.headline_law.specs.Chained.{MayWrite}
 use Rattle.headline_law.proofs.Family.{IsSame, IsThere, IsFamily}
 
@@ -264,10 +264,6 @@ module _ (opening : List Object) (Among : Step → Type 0) (f : IsFamily opening
   module _ (In : Step → Type 0) (inside : (x : Step) → In x → Among x) (sources : (x : Step) → In x → (i : Input) (o : Object) → Has (zip (objects_of x.tx) x.inputs) (i, o) → IsThere opening In o) where
     abbrev Within : Object → Type 0
     Within = IsThere opening In
-
-    within : (o : Object) → Within o → There o
-    within o (inl h) = inl h
-    within o (inr (x, ix, h)) = inr (x, inside x ix, h)
 
     -- what is below one that is there is there as well, and they passed it on
     lower-within : (n : ℕ) (a b : Object) → There a → Within b → a.id ≡ b.id → a.version < b.version → b.version < n → Within a × IsPassed In a b

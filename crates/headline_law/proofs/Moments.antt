@@ -12,11 +12,11 @@ use Rattle.safety_law.proofs.Forks.{no-fork}
 use Rattle.safety_law.proofs.Once.{voted-once}
 use Rattle.safety_law.proofs.Owner.{owner, signed}
 use Rattle.safety_law.proofs.Voted.{certified-is}
-use Rattle.agreement_law.proofs.SetUp.{set-up-apart}
-use Rattle.agreement_law.proofs.Opened.{every-opening, opened-alike}
-use Rattle.agreement_law.proofs.OneList.{built-is-of-thread, one-list}
-use Rattle.agreement_law.proofs.AgreedEpochs.{every-checkpoint}
-use Rattle.agreement_law.proofs.Sums.{are-backed, only-gas, set-up-backed}
+use Rattle.safety_law.proofs.SetUp.{set-up-apart}
+use Rattle.safety_law.proofs.Opened.{every-opening, opened-alike}
+use Rattle.safety_law.proofs.OneList.{built-is-of-thread, one-list}
+use Rattle.safety_law.proofs.AgreedEpochs.{every-checkpoint}
+use Rattle.safety_law.proofs.Sums.{are-backed, only-gas, set-up-backed}
 use Rattle.headline_law.proofs.Finishing.{no-turn-waits, runs-execute-admitted}
 use Rattle.headline_law.proofs.Keeping.{runs-execute-ready}
 use Rattle.headline_law.proofs.Keys.{present-is-ready}

@@ -5,8 +5,8 @@ use Rattle.digest_core.specs.declared.Digest.{Digest}
 use Rattle.chain_types.specs.declared.transactions.Transaction.{Transaction}
 use Rattle.chain_messages.specs.declared.messages.Statement.TheVariants as statement
 use Rattle.effects_core.specs.Effects.{digest_of_effects}
-use Rattle.answer_types.specs.declared.answers.Held.{Held}
-use Rattle.answer_types.specs.declared.pieces.Executed.{Executed}
+use Rattle.protocol_spec.specs.declared.answers.Held.{Held}
+use Rattle.protocol_spec.specs.declared.pieces.Executed.{Executed}
 use Rattle.journal_core.specs.declared.records.Record.{Record}
 use Rattle.schedule_text.specs.declared.words.Event.{Event}
 use Rattle.protocol_spec.proofs.ListLemmas.{each_has}
@@ -24,14 +24,14 @@ use Rattle.safety_law.proofs.Journals.{every-record}
 use Rattle.safety_law.proofs.Meeting.{two_meet}
 use Rattle.safety_law.proofs.Owner.{honest-after}
 use Rattle.safety_law.proofs.Voted.{seat-of}
-use Rattle.sequence_law.specs.Orderly.{AreApart}
-use Rattle.agreement_law.specs.Agreed.{IsHeldAsGiven}
-use Rattle.agreement_law.specs.Explained.{IsExplained}
-use Rattle.agreement_law.proofs.Executed.{one-gave}
-use Rattle.agreement_law.proofs.Executing.{executions-explained}
-use Rattle.agreement_law.proofs.Lists.{along-split}
-use Rattle.agreement_law.proofs.SameSteps.{given-alike}
-use Rattle.agreement_law.proofs.Supply.{every-held}
+use Rattle.block_law.specs.Orderly.{AreApart}
+use Rattle.safety_law.specs.Agreed.{IsHeldAsGiven}
+use Rattle.safety_law.specs.Explained.{IsExplained}
+use Rattle.safety_law.proofs.Executed.{one-gave}
+use Rattle.safety_law.proofs.Executing.{executions-explained}
+use Rattle.safety_law.proofs.Lists.{along-split}
+use Rattle.safety_law.proofs.SameSteps.{given-alike}
+use Rattle.safety_law.proofs.Supply.{every-held}
 use Rattle.headline_law.specs.Stated.{HasExecuted, WasOnce}
 use Rattle.headline_law.proofs.Saying.{every-ack}
 use Rattle.headline_law.proofs.Settling.{still-executed}

@@ -8,9 +8,9 @@ use Rattle.world_spec.specs.World.{Seat, member_in}
 use Rattle.world_spec.specs.Openings.{checkpointed, sequence_of, opening_at}
 use Rattle.world_spec.specs.Run.{world_after}
 use Rattle.world_spec.specs.Assumptions.{IsHonestRun}
-use Rattle.sequence_law.specs.Orderly.{AreApart}
-use Rattle.agreement_law.specs.Sums.{GasHeldBefore}
-use Rattle.agreement_law.proofs.Opened.{every-opening}
+use Rattle.block_law.specs.Orderly.{AreApart}
+use Rattle.safety_law.specs.Sums.{GasHeldBefore}
+use Rattle.safety_law.proofs.Opened.{every-opening}
 use Rattle.headline_law.specs.Amounts.{HoldsAmount}
 use Rattle.headline_law.proofs.Thread.{thread-amounts, gas-holds}
 

@@ -11,9 +11,9 @@ use Rattle.chain_types.specs.declared.transactions.Transaction.{Transaction}
 use Rattle.chain_types.specs.declared.refusals.DecideRefusal.TheVariants as refused
 use Rattle.chain_types.specs.Equal.{digest_eq, key_eq}
 use Rattle.chain_types.specs.Digests.{key_of, transaction_digest}
-use Rattle.answer_types.specs.declared.pieces.Executed.{Executed}
+use Rattle.protocol_spec.specs.declared.pieces.Executed.{Executed}
 use Rattle.chain_messages.specs.declared.messages.Certificate.{Certificate}
-use Rattle.answer_types.specs.declared.answers.Held.{Held}
+use Rattle.protocol_spec.specs.declared.answers.Held.{Held}
 use Rattle.schedule_text.specs.declared.words.Event.{Event}
 use Rattle.protocol_spec.proofs.Equality.{digest_self}
 use Rattle.protocol_spec.specs.Chain.Words.{Has}
@@ -31,13 +31,13 @@ use Rattle.world_spec.specs.Run.{world_after}
 use Rattle.world_spec.specs.Assumptions.{IsHonestRun, all_delivered}
 use Rattle.safety_law.proofs.Apart.{none-each, none-of}
 use Rattle.safety_law.proofs.Owner.{voter}
-use Rattle.agreement_law.specs.Agreed.{IsGiven, IsHeldAsGiven}
-use Rattle.agreement_law.proofs.Supply.{every-held}
-use Rattle.sequence_law.proofs.Live.{has-flat}
-use Rattle.sequence_law.specs.Orderly.{AreApart}
-use Rattle.agreement_law.proofs.SameSteps.{was-formed}
-use Rattle.agreement_law.proofs.AgreedEpochs.{members-agree}
-use Rattle.agreement_law.proofs.Executed.{execution-there}
+use Rattle.safety_law.specs.Agreed.{IsGiven, IsHeldAsGiven}
+use Rattle.safety_law.proofs.Supply.{every-held}
+use Rattle.block_law.proofs.Live.{has-flat}
+use Rattle.block_law.specs.Orderly.{AreApart}
+use Rattle.safety_law.proofs.SameSteps.{was-formed}
+use Rattle.safety_law.proofs.AgreedEpochs.{members-agree}
+use Rattle.safety_law.proofs.Executed.{execution-there}
 use Rattle.headline_law.specs.Cast.{WasCast}
 use Rattle.headline_law.specs.Present.{IsPresent}
 use Rattle.headline_law.proofs.Cast.{every-vote-was-cast}

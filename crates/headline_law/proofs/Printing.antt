@@ -25,7 +25,7 @@ use Rattle.world_spec.specs.Report.{acks_collected, final_collected, final_lines
 use Rattle.safety_law.proofs.Apart.{none-of}
 use Rattle.safety_law.proofs.Steps.{last-said}
 use Rattle.safety_law.proofs.Totals.{each-all}
-use Rattle.agreement_law.proofs.Lists.{first-says}
+use Rattle.safety_law.proofs.Lists.{first-says}
 use Rattle.headline_law.specs.Printed.{IsFinalHere, final_by}
 
 -- ---- what collecting the whole says

@@ -12,8 +12,8 @@ use Rattle.schedule_text.specs.declared.words.Setup.TheVariants as line
 use Rattle.schedule_text.specs.declared.statement.Statement.{Statement}
 use Rattle.schedule_text.specs.declared.statement.Statement.TheVariants as statement
 use Rattle.schedule_text.specs.Schedule.{schedule_of}
-use Rattle.text_law.specs.Sayable.{IsSetup, IsStatement}
-use Rattle.text_law.proofs.SaidWhole.{text_said}
+use Rattle.run_law.specs.Sayable.{IsSetup, IsStatement}
+use Rattle.run_law.proofs.SaidWhole.{text_said}
 use Rattle.protocol_spec.proofs.ListLemmas.{each_join}
 use Rattle.protocol_spec.specs.Chain.Words.{Each}
 use Rattle.protocol_spec.specs.Chain.Keys.{currency_sum}
@@ -24,9 +24,9 @@ use Rattle.world_spec.specs.Openings.{opening_at}
 use Rattle.world_spec.specs.Run.{world_after}
 use Rattle.world_spec.specs.Assumptions.{IsHonestRun}
 use Rattle.block_law.specs.Money.{cap_count, supply_sum}
-use Rattle.agreement_law.proofs.SetUp.{set-up-apart}
-use Rattle.agreement_law.specs.Sums.{NamesOther, epoch_gas}
-use Rattle.agreement_law.proofs.Sums.{only-gas, are-backed, set-up-backed, set-up-capless}
+use Rattle.safety_law.proofs.SetUp.{set-up-apart}
+use Rattle.safety_law.specs.Sums.{NamesOther, epoch_gas}
+use Rattle.safety_law.proofs.Sums.{only-gas, are-backed, set-up-backed, set-up-capless}
 use Rattle.headline_law.specs.Amounts.{money_held, HoldsAmount, IsAmount}
 use Rattle.headline_law.proofs.Openings.{gas-was-held}
 

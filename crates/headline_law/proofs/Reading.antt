@@ -10,8 +10,8 @@ use Rattle.chain_types.specs.declared.transactions.Input.TheVariants as inputs
 use Rattle.chain_types.specs.declared.transactions.Transaction.{Transaction}
 use Rattle.chain_types.specs.Equal.{digest_eq}
 use Rattle.chain_types.specs.Digests.{is_object}
-use Rattle.answer_types.specs.declared.answers.Assigned.{Assigned}
-use Rattle.answer_types.specs.declared.answers.Held.{Held}
+use Rattle.protocol_spec.specs.declared.answers.Assigned.{Assigned}
+use Rattle.protocol_spec.specs.declared.answers.Held.{Held}
 use Rattle.protocol_spec.proofs.Equality.{digest_same}
 use Rattle.protocol_spec.specs.Chain.Words.{Has, Along, IsFront, all_some}
 use Rattle.protocol_spec.specs.Chain.Keys.{objects_of, is_shared_input, has_shared_input, fits_input, fits}
@@ -20,15 +20,15 @@ use Rattle.protocol_spec.specs.Member.Versions.{Execution, Version, versions, ob
 use Rattle.protocol_spec.specs.Member.Admission.{Admitted, Admission, is_admitted, assigned_of, assignments, current}
 use Rattle.protocol_spec.specs.Member.Rounds.{Wanted, is_wanted, wanted_by, wants_of, found, present, may_run, executes_as}
 use Rattle.protocol_spec.specs.Member.Member.{Member, books}
-use Rattle.sequence_law.proofs.Live.{any-has}
-use Rattle.sequence_law.specs.Admitted.{held_again, IsInOrder}
-use Rattle.agreement_law.proofs.Executed.{same-wants}
-use Rattle.agreement_law.specs.Explained.{IsExplained}
-use Rattle.agreement_law.proofs.Executing.{wants-same, explained-more}
-use Rattle.sequence_law.specs.Orderly.{Step, gave}
-use Rattle.sequence_law.proofs.Reading.{has-zip}
-use Rattle.agreement_law.proofs.Lists.{along-split}
-use Rattle.agreement_law.proofs.Wants.{found-as, version-found, wanted-at, assigned-is, shared-wanted}
+use Rattle.block_law.proofs.Live.{any-has}
+use Rattle.block_law.specs.Admitted.{held_again, IsInOrder}
+use Rattle.safety_law.proofs.Executed.{same-wants}
+use Rattle.safety_law.specs.Explained.{IsExplained}
+use Rattle.safety_law.proofs.Executing.{wants-same, explained-more}
+use Rattle.block_law.specs.Orderly.{Step, gave}
+use Rattle.block_law.proofs.ReadingSteps.{has-zip}
+use Rattle.safety_law.proofs.Lists.{along-split}
+use Rattle.safety_law.proofs.Wants.{found-as, version-found, wanted-at, assigned-is, shared-wanted}
 use Rattle.headline_law.proofs.Present.{IsOpened, IsWrote, version-from}
 use Rattle.block_law.proofs.Written.{fit-at, fits-first}
 

@@ -16,8 +16,8 @@ use Rattle.chain_types.specs.declared.transactions.Transaction.{Transaction}
 use Rattle.chain_types.specs.declared.refusals.DecideRefusal.TheVariants as refused
 use Rattle.chain_types.specs.Equal.{id_eq, key_eq}
 use Rattle.chain_types.specs.Digests.{key_of, transaction_digest, is_object, lamport_version}
-use Rattle.answer_types.specs.declared.answers.Assigned.{Assigned}
-use Rattle.answer_types.specs.declared.answers.Held.{Held}
+use Rattle.protocol_spec.specs.declared.answers.Assigned.{Assigned}
+use Rattle.protocol_spec.specs.declared.answers.Held.{Held}
 use Rattle.schedule_text.specs.declared.words.Event.{Event}
 use Rattle.protocol_spec.proofs.Equality.{id_same, id_self}
 use Rattle.protocol_spec.specs.Chain.Words.{Has, all_some}
@@ -37,16 +37,16 @@ use Rattle.world_spec.specs.Assumptions.{IsHonestRun, all_delivered}
 use Rattle.safety_law.proofs.Apart.{none-each, none-of}
 use Rattle.block_law.proofs.Written.{second}
 use Rattle.block_law.specs.Shared.{shared_since}
-use Rattle.agreement_law.specs.Agreed.{IsGiven, IsHeldAsGiven}
-use Rattle.agreement_law.proofs.Supply.{every-held}
-use Rattle.sequence_law.proofs.Live.{has-any}
-use Rattle.sequence_law.specs.Orderly.{AreApart}
-use Rattle.sequence_law.proofs.Reading.{has-zip, has-kept}
-use Rattle.agreement_law.proofs.Lists.{all-has}
-use Rattle.agreement_law.proofs.Known.{opens-apart}
-use Rattle.agreement_law.proofs.Lives.{newest-from}
-use Rattle.agreement_law.proofs.Versions.{each-version}
-use Rattle.agreement_law.proofs.Wants.{found-as, nobody, version-found, wanted-at}
+use Rattle.safety_law.specs.Agreed.{IsGiven, IsHeldAsGiven}
+use Rattle.safety_law.proofs.Supply.{every-held}
+use Rattle.block_law.proofs.Live.{has-any}
+use Rattle.block_law.specs.Orderly.{AreApart}
+use Rattle.block_law.proofs.ReadingSteps.{has-zip, has-kept}
+use Rattle.safety_law.proofs.Lists.{all-has}
+use Rattle.safety_law.proofs.Known.{opens-apart}
+use Rattle.safety_law.proofs.Lives.{newest-from}
+use Rattle.safety_law.proofs.Versions.{each-version}
+use Rattle.safety_law.proofs.Wants.{found-as, nobody, version-found, wanted-at}
 use Rattle.headline_law.proofs.Present.{cast-given, voted-by, owned-present}
 use Rattle.headline_law.proofs.Fitting.{writes-once}
 use Rattle.headline_law.proofs.Whole.{zip-there, whole-fits, certificates-fit}

@@ -2,7 +2,7 @@
 -- left something.
 use Rattle.std.proofs.Common.{refl, sym, subst, append_assoc, ◌∙◌}
 use Rattle.std.specs.Prelude.{◌≡◌, ℕ, List, [], ◌∷◌, ◌++◌, slice_get, Some, Ok}
-use Rattle.answer_types.specs.declared.answers.Ran.{Ran}
+use Rattle.protocol_spec.specs.declared.answers.Ran.{Ran}
 use Rattle.schedule_text.specs.declared.words.Event.{Event}
 use Rattle.protocol_spec.proofs.ListLemmas.{each_join, each_has}
 use Rattle.protocol_spec.specs.Chain.Words.{Each}
@@ -16,7 +16,7 @@ use Rattle.world_spec.specs.Assumptions.{IsHonestRun}
 use Rattle.safety_law.proofs.Forks.{no-fork}
 use Rattle.safety_law.proofs.Fronts.{honest-front}
 use Rattle.safety_law.proofs.Grown.{world-append}
-use Rattle.sequence_law.specs.Orderly.{AreApart}
+use Rattle.block_law.specs.Orderly.{AreApart}
 use Rattle.headline_law.proofs.Running.{no-run-leaves-anything}
 use Rattle.headline_law.specs.Alarms.{IsCalm}
 use Rattle.headline_law.proofs.Calming.{IsCalmLine}

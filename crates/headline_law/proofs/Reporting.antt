@@ -16,8 +16,8 @@ use Rattle.world_spec.specs.Report.{lines_of}
 use Rattle.world_spec.specs.Run.{report, report_from, report_of, run, world_after}
 use Rattle.world_spec.specs.Assumptions.{IsHonestRun}
 use Rattle.safety_law.proofs.Grown.{statements-grow}
-use Rattle.sequence_law.specs.Orderly.{AreApart}
-use Rattle.agreement_law.proofs.SetUp.{set-up-apart}
+use Rattle.block_law.specs.Orderly.{AreApart}
+use Rattle.safety_law.proofs.SetUp.{set-up-apart}
 use Rattle.headline_law.specs.Final.{StandsForGood}
 use Rattle.headline_law.specs.Printed.{IsFinalHere, WasFinal, final_by}
 use Rattle.headline_law.proofs.Printing.{printed-asked, printed-is-final}

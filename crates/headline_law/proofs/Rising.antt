@@ -14,8 +14,8 @@ use Rattle.protocol_spec.specs.Chain.Words.{Has, Along, first_some, first_of, wh
 use Rattle.protocol_spec.specs.Chain.Tests.{has_id}
 use Rattle.protocol_spec.specs.Chain.Keys.{objects_of, mutable_id}
 use Rattle.protocol_spec.specs.Member.Admission.{Admitted, writes, cert_of, beginning_by, standing_after, standing_or, current, taken_version, admit}
-use Rattle.sequence_law.specs.Admitted.{IsInOrder}
-use Rattle.agreement_law.proofs.Lists.{has-split, along-front}
+use Rattle.block_law.specs.Admitted.{IsInOrder}
+use Rattle.safety_law.proofs.Lists.{has-split, along-front}
 
 -- ---- the last of which a test holds
 

@@ -18,8 +18,8 @@ use Rattle.schedule_text.specs.Schedule.{schedule_of}
 use Rattle.protocol_spec.proofs.Truth.{both_true}
 use Rattle.protocol_spec.specs.Chain.Committee.{all_known, is_roll}
 use Rattle.world_spec.specs.Setting.{Name, Trust, setting_of, stakes_of}
-use Rattle.text_law.specs.Sayable.{added, then_read}
-use Rattle.text_law.proofs.SaidWhole.{text_said, check_said}
+use Rattle.run_law.specs.Sayable.{added, then_read}
+use Rattle.run_law.proofs.SaidWhole.{text_said, check_said}
 
 -- ---- a check of the lines, one after the other
 

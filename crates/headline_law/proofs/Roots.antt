@@ -9,8 +9,8 @@ use Rattle.chain_types.specs.declared.transactions.Transaction.{Transaction}
 use Rattle.chain_types.specs.Equal.{digest_eq, id_eq}
 use Rattle.chain_types.specs.Digests.{transaction_digest}
 use Rattle.chain_messages.specs.declared.messages.Certificate.{Certificate}
-use Rattle.answer_types.specs.declared.pieces.Executed.{Executed}
-use Rattle.answer_types.specs.declared.answers.Held.{Held}
+use Rattle.protocol_spec.specs.declared.pieces.Executed.{Executed}
+use Rattle.protocol_spec.specs.declared.answers.Held.{Held}
 use Rattle.schedule_text.specs.declared.words.Event.{Event}
 use Rattle.protocol_spec.proofs.Equality.{digest_self}
 use Rattle.protocol_spec.proofs.Executions.{effects_tx}
@@ -31,20 +31,20 @@ use Rattle.block_law.proofs.Steps.{map-append}
 use Rattle.block_law.proofs.Effects.{objects-ids}
 use Rattle.block_law.specs.Shared.{shared_since, IsAsNamed, IsNew}
 use Rattle.block_law.proofs.Written.{stay-shared, below, second}
-use Rattle.agreement_law.specs.Agreed.{IsGiven, IsHeldAsGiven}
-use Rattle.agreement_law.specs.Explained.{IsExplained}
-use Rattle.agreement_law.proofs.Supply.{every-held}
-use Rattle.agreement_law.proofs.Executing.{executions-explained}
-use Rattle.agreement_law.proofs.Same.{of-run}
-use Rattle.sequence_law.specs.Orderly.{Step, id_of}
-use Rattle.sequence_law.proofs.Touched.{written-version}
-use Rattle.agreement_law.specs.Orderly.{OpensApart}
-use Rattle.agreement_law.proofs.Lists.{along-split}
-use Rattle.agreement_law.proofs.Lives.{IsThere, version-there}
-use Rattle.agreement_law.proofs.Executed.{one-gave, execution-there}
-use Rattle.agreement_law.proofs.Ordered.{repeats-append, names-once}
-use Rattle.agreement_law.proofs.Drawn.{created-most}
-use Rattle.agreement_law.proofs.Known.{each-found}
+use Rattle.safety_law.specs.Agreed.{IsGiven, IsHeldAsGiven}
+use Rattle.safety_law.specs.Explained.{IsExplained}
+use Rattle.safety_law.proofs.Supply.{every-held}
+use Rattle.safety_law.proofs.Executing.{executions-explained}
+use Rattle.safety_law.proofs.Same.{of-run}
+use Rattle.block_law.specs.Orderly.{Step, id_of}
+use Rattle.block_law.proofs.Touched.{written-version}
+use Rattle.safety_law.specs.Orderly.{OpensApart}
+use Rattle.safety_law.proofs.Lists.{along-split}
+use Rattle.safety_law.proofs.Lives.{IsThere, version-there}
+use Rattle.safety_law.proofs.Executed.{one-gave, execution-there}
+use Rattle.safety_law.proofs.Ordered.{repeats-append, names-once}
+use Rattle.safety_law.proofs.Drawn.{created-most}
+use Rattle.safety_law.proofs.Known.{each-found}
 use Rattle.headline_law.proofs.Present.{has-find}
 
 -- ---- where an id comes from

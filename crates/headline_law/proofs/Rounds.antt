@@ -8,7 +8,7 @@ use Rattle.chain_types.specs.declared.objects.ObjectId.{ObjectId}
 use Rattle.chain_types.specs.declared.objects.ObjectKey.{ObjectKey}
 use Rattle.chain_types.specs.declared.objects.Object.{Object}
 use Rattle.chain_types.specs.Equal.{id_eq, key_eq}
-use Rattle.answer_types.specs.declared.answers.Held.{Held}
+use Rattle.protocol_spec.specs.declared.answers.Held.{Held}
 use Rattle.protocol_spec.proofs.Equality.{id_same}
 use Rattle.protocol_spec.proofs.Executions.{stays_executed}
 use Rattle.protocol_spec.specs.Chain.Words.{Has, where_true}
@@ -20,7 +20,7 @@ use Rattle.protocol_spec.specs.Member.Versions.{Execution, versions, is_executed
 use Rattle.protocol_spec.specs.Member.Rounds.{Books, present, may_run, writes_new, executes_as, ready_as, ready_on, ready, clashes, round_add, round_among, round_of, rounds_within, rounds}
 use Rattle.safety_law.proofs.Once.{has-push}
 use Rattle.headline_law.proofs.Keys.{was-executed}
-use Rattle.sequence_law.proofs.Live.{any-has}
+use Rattle.block_law.proofs.Live.{any-has}
 
 -- ---- what is ready
 

@@ -2,10 +2,10 @@
 use Rattle.std.proofs.Common.{refl, sym, subst, ap, ◌∙◌}
 use Rattle.std.specs.Prelude.{◌≡◌, ℕ, Bool, true, false, List, [], ◌∷◌, ◌++◌, slice_get, Option, Some, None, Result, Ok}
 use Rattle.std.specs.List.{list_all}
-use Rattle.answer_types.specs.declared.answers.Held.{Held}
-use Rattle.answer_types.specs.declared.answers.Ran.{Ran}
-use Rattle.answer_types.specs.declared.refusals.RunRefusal.{RunRefusal}
-use Rattle.answer_types.specs.declared.refusals.RunRefusal.TheVariants as no_run
+use Rattle.protocol_spec.specs.declared.answers.Held.{Held}
+use Rattle.protocol_spec.specs.declared.answers.Ran.{Ran}
+use Rattle.protocol_spec.specs.declared.refusals.RunRefusal.{RunRefusal}
+use Rattle.protocol_spec.specs.declared.refusals.RunRefusal.TheVariants as no_run
 use Rattle.schedule_text.specs.declared.words.Event.{Event}
 use Rattle.protocol_spec.specs.Chain.Words.{Has, first_some, unless_refused}
 use Rattle.protocol_spec.specs.Chain.Certificates.{Rules}
@@ -17,7 +17,7 @@ use Rattle.world_spec.specs.Setting.{Setting}
 use Rattle.world_spec.specs.World.{Seat, member_in}
 use Rattle.world_spec.specs.Run.{world_after}
 use Rattle.world_spec.specs.Assumptions.{IsHonestRun}
-use Rattle.sequence_law.specs.Orderly.{AreApart}
+use Rattle.block_law.specs.Orderly.{AreApart}
 use Rattle.headline_law.specs.Runs.{IsRunOut, HasNothingToWaitFor}
 use Rattle.headline_law.proofs.Behind.{start_and_run, IsRunOn, run-on}
 use Rattle.headline_law.proofs.Rounds.{nothing-ready}

@@ -1,7 +1,7 @@
 -- What is known of a member at a moment of a run, in terms of the whole run; and of two members of one epoch.
 use Rattle.std.proofs.Common.{inl, inr, subst, append-nil}
 use Rattle.std.specs.Prelude.{◌≡◌, ◌⊎◌, ℕ, List, [], ◌++◌, slice_get, Some}
-use Rattle.answer_types.specs.declared.answers.Held.{Held}
+use Rattle.protocol_spec.specs.declared.answers.Held.{Held}
 use Rattle.schedule_text.specs.declared.words.Event.{Event}
 use Rattle.protocol_spec.proofs.ListLemmas.{each_has}
 use Rattle.protocol_spec.specs.Chain.Words.{Has, Along, IsFront}
@@ -13,13 +13,13 @@ use Rattle.world_spec.specs.World.{Seat, new_world, member_in}
 use Rattle.world_spec.specs.Run.{world_after}
 use Rattle.world_spec.specs.Assumptions.{IsHonestRun, delivered, all_delivered}
 use Rattle.safety_law.proofs.Forks.{all-front}
-use Rattle.sequence_law.specs.Admitted.{IsInOrder}
-use Rattle.agreement_law.specs.Agreed.{IsGiven, IsHeldAsGiven, IsAdmittedAsGiven, IsEarlier}
-use Rattle.agreement_law.specs.Explained.{IsExplained}
-use Rattle.agreement_law.proofs.Supply.{every-held, every-admission}
-use Rattle.agreement_law.proofs.Executing.{executions-explained}
-use Rattle.sequence_law.specs.Orderly.{AreApart}
-use Rattle.agreement_law.proofs.AgreedEpochs.{members-agree}
+use Rattle.block_law.specs.Admitted.{IsInOrder}
+use Rattle.safety_law.specs.Agreed.{IsGiven, IsHeldAsGiven, IsAdmittedAsGiven, IsEarlier}
+use Rattle.safety_law.specs.Explained.{IsExplained}
+use Rattle.safety_law.proofs.Supply.{every-held, every-admission}
+use Rattle.safety_law.proofs.Executing.{executions-explained}
+use Rattle.block_law.specs.Orderly.{AreApart}
+use Rattle.safety_law.proofs.AgreedEpochs.{members-agree}
 
 -- what it holds and admitted was given in the run, its admitted transactions are in order, its executions explained
 pub record IsSettled (s : Setting) (events : List Event) (m : Member) : Type 0 where

@@ -9,9 +9,9 @@ use Rattle.chain_types.specs.Digests.{transaction_digest}
 use Rattle.chain_messages.specs.declared.messages.Certificate.{Certificate}
 use Rattle.journal_core.specs.declared.records.Record.{Record}
 use Rattle.journal_core.specs.declared.records.Record.TheVariants as record_as
-use Rattle.answer_types.specs.declared.answers.Held.{Held}
-use Rattle.answer_types.specs.declared.refusals.HoldRefusal.{HoldRefusal}
-use Rattle.answer_types.specs.declared.refusals.HoldRefusal.TheVariants as no_hold
+use Rattle.protocol_spec.specs.declared.answers.Held.{Held}
+use Rattle.protocol_spec.specs.declared.refusals.HoldRefusal.{HoldRefusal}
+use Rattle.protocol_spec.specs.declared.refusals.HoldRefusal.TheVariants as no_hold
 use Rattle.protocol_spec.proofs.ListLemmas.{has_left}
 use Rattle.protocol_spec.specs.Chain.Words.{Has, Along, IsFront, first_some, where_true, unless_refused, refused_or}
 use Rattle.protocol_spec.specs.Chain.Certificates.{Rules, read_certificate, cert_refusal}
@@ -24,8 +24,8 @@ use Rattle.protocol_spec.specs.Member.Calls.{Call, votes, holds, sees, runs, clo
 use Rattle.protocol_spec.specs.Member.Due.{IsDueBehind}
 use Rattle.safety_law.proofs.Apart.{state-push}
 use Rattle.safety_law.proofs.Once.{has-push}
-use Rattle.agreement_law.proofs.Appends.{due-appends}
-use Rattle.agreement_law.proofs.Prefixes.{IsSee, due-see}
+use Rattle.safety_law.proofs.Appends.{due-appends}
+use Rattle.safety_law.proofs.Prefixes.{IsSee, due-see}
 use Rattle.headline_law.specs.Stated.{HasExecuted, IsSettled}
 use Rattle.headline_law.proofs.Along.{epoch-grows}
 use Rattle.headline_law.proofs.Knowing.{IsIn, in-known, known-in, in-saw, in-taken}

@@ -12,8 +12,8 @@ use Rattle.chain_messages.specs.Messages as messages
 use Rattle.checkpoint_core.specs.declared.checkpoints.Item.{Item}
 use Rattle.checkpoint_core.specs.declared.checkpoints.Checkpoint.{Checkpoint}
 use Rattle.effects_core.specs.Effects.{digest_of_effects}
-use Rattle.answer_types.specs.declared.pieces.Executed.{Executed}
-use Rattle.answer_types.specs.declared.answers.Held.{Held}
+use Rattle.protocol_spec.specs.declared.pieces.Executed.{Executed}
+use Rattle.protocol_spec.specs.declared.answers.Held.{Held}
 use Rattle.journal_core.specs.declared.records.Record.{Record}
 use Rattle.schedule_text.specs.declared.words.Event.{Event}
 use Rattle.protocol_spec.proofs.Equality.{digest_same}
@@ -37,16 +37,16 @@ use Rattle.safety_law.proofs.Journals.{every-record}
 use Rattle.safety_law.proofs.Meeting.{two_meet}
 use Rattle.safety_law.proofs.Owner.{honest-after}
 use Rattle.safety_law.proofs.Voted.{seat-of}
-use Rattle.sequence_law.proofs.Live.{any-has, has-flat}
-use Rattle.sequence_law.specs.Orderly.{AreApart}
-use Rattle.agreement_law.specs.Agreed.{IsTaken}
-use Rattle.agreement_law.specs.Checkpointed.{admitted_in}
-use Rattle.agreement_law.proofs.AgreedEpochs.{members-agree}
-use Rattle.agreement_law.proofs.Ended.{seen-ended}
-use Rattle.agreement_law.proofs.Opened.{grows-after}
-use Rattle.agreement_law.proofs.Prefixes.{earlier-front, either-front, follows, more-taken}
-use Rattle.agreement_law.proofs.SetUp.{set-up-apart}
-use Rattle.agreement_law.proofs.Turned.{CanTurn, has-all}
+use Rattle.block_law.proofs.Live.{any-has, has-flat}
+use Rattle.block_law.specs.Orderly.{AreApart}
+use Rattle.safety_law.specs.Agreed.{IsTaken}
+use Rattle.safety_law.specs.Checkpointed.{admitted_in}
+use Rattle.safety_law.proofs.AgreedEpochs.{members-agree}
+use Rattle.safety_law.proofs.Ended.{seen-ended}
+use Rattle.safety_law.proofs.Opened.{grows-after}
+use Rattle.safety_law.proofs.Prefixes.{earlier-front, either-front, follows, more-taken}
+use Rattle.safety_law.proofs.SetUp.{set-up-apart}
+use Rattle.safety_law.proofs.Turned.{CanTurn, has-all}
 use Rattle.headline_law.specs.Ended.{IsWhole}
 use Rattle.headline_law.specs.Final.{StandsForGood, StandsIn}
 use Rattle.headline_law.specs.Stated.{HasExecuted, IsSettled, WasOnce}

@@ -13,7 +13,7 @@ use Rattle.chain_types.specs.declared.transactions.Transaction.{Transaction}
 use Rattle.chain_types.specs.Equal.{id_eq, digest_eq}
 use Rattle.chain_types.specs.Digests.{transaction_digest, consumed_keys}
 use Rattle.chain_messages.specs.declared.messages.Certificate.{Certificate}
-use Rattle.answer_types.specs.declared.answers.Held.{Held}
+use Rattle.protocol_spec.specs.declared.answers.Held.{Held}
 use Rattle.schedule_text.specs.declared.words.Event.{Event}
 use Rattle.protocol_spec.proofs.Equality.{digest_same, id_same, digest_self}
 use Rattle.protocol_spec.specs.Chain.Words.{Has, Along, IsFront, numbers_below, repeats}
@@ -25,19 +25,19 @@ use Rattle.protocol_spec.specs.Member.Member.{Member}
 use Rattle.world_spec.specs.Setting.{Setting}
 use Rattle.world_spec.specs.Names.{draws}
 use Rattle.world_spec.specs.Assumptions.{IsHonestRun, all_delivered, all_transactions}
-use Rattle.sequence_law.specs.Admitted.{IsInOrder}
+use Rattle.block_law.specs.Admitted.{IsInOrder}
 use Rattle.block_law.specs.Names.{drawn_id, drawn_ids}
 use Rattle.block_law.proofs.Steps.{map-append}
 use Rattle.block_law.proofs.Written.{below}
-use Rattle.agreement_law.specs.Agreed.{IsGiven}
-use Rattle.agreement_law.proofs.Same.{of-run}
+use Rattle.safety_law.specs.Agreed.{IsGiven}
+use Rattle.safety_law.proofs.Same.{of-run}
 use Rattle.safety_law.proofs.Owner.{owner}
-use Rattle.sequence_law.specs.Orderly.{Step, gave, Makes, IsOpening}
-use Rattle.sequence_law.proofs.Reading.{has-zip, not-both}
-use Rattle.agreement_law.specs.Orderly.{OpensApart}
-use Rattle.agreement_law.proofs.Ordered.{repeats-append, names-once}
-use Rattle.agreement_law.proofs.SameSteps.{was-formed, given-alike}
-use Rattle.agreement_law.proofs.Drawn.{created-most}
+use Rattle.block_law.specs.Orderly.{Step, gave, Makes, IsOpening}
+use Rattle.block_law.proofs.ReadingSteps.{has-zip, not-both}
+use Rattle.safety_law.specs.Orderly.{OpensApart}
+use Rattle.safety_law.proofs.Ordered.{repeats-append, names-once}
+use Rattle.safety_law.proofs.SameSteps.{was-formed, given-alike}
+use Rattle.safety_law.proofs.Drawn.{created-most}
 use Rattle.headline_law.specs.Chained.{MayWrite}
 use Rattle.headline_law.proofs.Rising.{IsAhead, two-places, writes-it, rising, in-order}
 use Rattle.headline_law.proofs.Settled.{IsSettled, ArePeers}

@@ -20,10 +20,10 @@ use Rattle.protocol_spec.specs.Member.Versions.{id_cmp}
 use Rattle.protocol_spec.specs.Member.Sequential.{Objects, with_object, without_id, map_of, at_version, named_in, read_by, Folded, without_effects, with_execution, executed_on, fold_one, fold_all}
 use Rattle.block_law.specs.Keeping.{GasIsAmount}
 use Rattle.block_law.proofs.Sums.{objects_weight, option_weight}
-use Rattle.sequence_law.proofs.Following.{onto-parts}
-use Rattle.sequence_law.specs.Kept.{opened_with}
-use Rattle.sequence_law.proofs.Moving.{map_weight, change-weight}
-use Rattle.agreement_law.specs.Opened.{HasEffects, GasHolds}
+use Rattle.block_law.proofs.Following.{onto-parts}
+use Rattle.block_law.specs.Kept.{opened_with}
+use Rattle.block_law.proofs.Moving.{map_weight, change-weight}
+use Rattle.safety_law.specs.Opened.{HasEffects, GasHolds}
 use Rattle.headline_law.specs.Amounts.{money_held, HoldsAmount}
 use Rattle.headline_law.proofs.Written.{money-stays}
 
@@ -45,10 +45,6 @@ is-amount k none = go (nat_lt (money_held k) amount_limit) refl none
     go : (b : Bool) → nat_lt (money_held k) amount_limit ≡ b → cond {A = ℕ} b 0 1 ≡ 0 → money_held k < amount_limit
     go true e none = ltb-true (money_held k) amount_limit e
     go false e none = absurd (cc)
-
-weightless : (os : List Object) → Each HoldsAmount os → objects_weight excess os ≡ 0
-weightless [] each = refl
-weightless (o ∷ os) each = let one = no-excess o.content each.0 in let rest = weightless os each.1 in omega (arith, one, rest)
 
 each-amount : (os : List Object) → objects_weight excess os ≡ 0 → Each HoldsAmount os
 each-amount [] none = tt

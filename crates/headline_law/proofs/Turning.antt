@@ -20,11 +20,11 @@ use Rattle.world_spec.specs.Assumptions.{calls_of}
 use Rattle.safety_law.proofs.InWorld.{kept-line, new-seats}
 use Rattle.safety_law.proofs.Apart.{state-push}
 use Rattle.safety_law.proofs.Grown.{world-append}
-use Rattle.agreement_law.proofs.Appends.{a_turn, appended_as, appended_by, due-appends}
-use Rattle.agreement_law.proofs.Prefixes.{either-front}
-use Rattle.agreement_law.proofs.OneCall.{one-call}
-use Rattle.agreement_law.proofs.Opened.{no-turn-sees, no-turn-voted, no-turn-sent, no-turn-acked}
-use Rattle.agreement_law.proofs.Turned.{CanTurn, turn-due}
+use Rattle.safety_law.proofs.Appends.{a_turn, appended_as, appended_by, due-appends}
+use Rattle.safety_law.proofs.Prefixes.{either-front}
+use Rattle.safety_law.proofs.OneCall.{one-call}
+use Rattle.safety_law.proofs.Opened.{no-turn-sees, no-turn-voted, no-turn-sent, no-turn-acked}
+use Rattle.safety_law.proofs.Turned.{CanTurn, turn-due}
 use Rattle.headline_law.proofs.Along.{IsBeyond, IsTurn, built-beyond, cancel, epoch-grows, first-beyond, more-beyond, past-built, past-grows, push-split, same-or-less, turn-between, turn-epoch, turn-past}
 
 -- ---- the calls of a line that is not a turn

@@ -10,10 +10,10 @@ use Rattle.world_spec.specs.World.{Seat, member_in}
 use Rattle.world_spec.specs.Run.{world_after}
 use Rattle.world_spec.specs.Assumptions.{IsHonestRun}
 use Rattle.safety_law.proofs.Fronts.{honest-front}
-use Rattle.sequence_law.specs.Orderly.{AreApart}
-use Rattle.agreement_law.specs.Orderly.{OpensApart}
-use Rattle.agreement_law.proofs.Known.{opens-apart}
-use Rattle.agreement_law.proofs.SameSteps.{executions-same}
+use Rattle.block_law.specs.Orderly.{AreApart}
+use Rattle.safety_law.specs.Orderly.{OpensApart}
+use Rattle.safety_law.proofs.Known.{opens-apart}
+use Rattle.safety_law.proofs.SameSteps.{executions-same}
 use Rattle.headline_law.specs.Chained.{AreOneChain}
 use Rattle.headline_law.proofs.Settled.{ArePeers, settled, peers}
 use Rattle.headline_law.proofs.Chains.{one-chain}

@@ -3,7 +3,7 @@ use Rattle.std.proofs.Common.{refl, sym, subst}
 use Rattle.std.specs.Prelude.{◌≡◌, ℕ, zero, suc, Bool, true, false, cond, List, [], ◌∷◌, ◌++◌, fold, map, find, length, slice_get, Option, Some, None}
 use Rattle.chain_types.specs.declared.objects.Object.{Object}
 use Rattle.chain_messages.specs.Messages as messages
-use Rattle.answer_types.specs.declared.answers.Held.{Held}
+use Rattle.protocol_spec.specs.declared.answers.Held.{Held}
 use Rattle.schedule_text.specs.declared.words.Event.{Event}
 use Rattle.protocol_spec.specs.Chain.Words.{Along}
 use Rattle.protocol_spec.specs.Chain.Certificates.{Rules}
@@ -13,7 +13,7 @@ use Rattle.protocol_spec.specs.Member.Sequence.{Sequence, What, takes, commits, 
 use Rattle.world_spec.specs.Setting.{Setting}
 use Rattle.world_spec.specs.World.{Seat, member_in}
 use Rattle.world_spec.specs.Run.{world_after}
-use Rattle.agreement_law.proofs.Prefixes.{follows}
+use Rattle.safety_law.proofs.Prefixes.{follows}
 
 abbrev pub IsKept : List Object → List Admitted → Admitted → Type 0
 IsKept opening before a = is_dropped opening before a.cert ≡ false

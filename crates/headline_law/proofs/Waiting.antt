@@ -2,7 +2,7 @@
 use Rattle.std.proofs.Common.{inl, inr, refl, ap, arith}
 use Rattle.std.specs.Prelude.{◌≡◌, ◌≤◌, ◌<◌, ℕ, zero, suc, Bool, true, false, cond, List, [], ◌∷◌, ◌++◌, filter, find, fold, length, Option, Some, None}
 use Rattle.chain_types.specs.declared.objects.Object.{Object}
-use Rattle.answer_types.specs.declared.answers.Held.{Held}
+use Rattle.protocol_spec.specs.declared.answers.Held.{Held}
 use Rattle.protocol_spec.proofs.Equality.{digest_self}
 use Rattle.protocol_spec.proofs.ListLemmas.{find_has}
 use Rattle.protocol_spec.specs.Chain.Words.{Has}

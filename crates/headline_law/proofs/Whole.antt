@@ -12,8 +12,8 @@ use Rattle.chain_types.specs.declared.refusals.DecideRefusal.TheVariants as refu
 use Rattle.chain_types.specs.Equal.{id_eq}
 use Rattle.chain_types.specs.Digests.{key_of, transaction_digest, is_object, lamport_version}
 use Rattle.chain_messages.specs.declared.messages.Certificate.{Certificate}
-use Rattle.answer_types.specs.declared.answers.Assigned.{Assigned}
-use Rattle.answer_types.specs.declared.answers.Held.{Held}
+use Rattle.protocol_spec.specs.declared.answers.Assigned.{Assigned}
+use Rattle.protocol_spec.specs.declared.answers.Held.{Held}
 use Rattle.schedule_text.specs.declared.words.Event.{Event}
 use Rattle.protocol_spec.specs.Chain.Words.{Has, all_some, where_true}
 use Rattle.protocol_spec.specs.Chain.Shape.{names_bad_version, shape_cases, shape_fault}
@@ -31,13 +31,13 @@ use Rattle.world_spec.specs.World.{Seat, member_in}
 use Rattle.world_spec.specs.Run.{world_after}
 use Rattle.world_spec.specs.Assumptions.{IsHonestRun, all_delivered}
 use Rattle.safety_law.proofs.Apart.{none-each, none-of}
-use Rattle.agreement_law.specs.Agreed.{IsHeldAsGiven}
-use Rattle.agreement_law.proofs.Supply.{every-held}
-use Rattle.agreement_law.proofs.Executing.{some-parts}
-use Rattle.sequence_law.proofs.Reading.{has-kept}
-use Rattle.sequence_law.specs.Orderly.{AreApart}
-use Rattle.agreement_law.proofs.Wants.{nobody}
-use Rattle.agreement_law.proofs.Known.{opens-apart}
+use Rattle.safety_law.specs.Agreed.{IsHeldAsGiven}
+use Rattle.safety_law.proofs.Supply.{every-held}
+use Rattle.safety_law.proofs.Executing.{some-parts}
+use Rattle.block_law.proofs.ReadingSteps.{has-kept}
+use Rattle.block_law.specs.Orderly.{AreApart}
+use Rattle.safety_law.proofs.Wants.{nobody}
+use Rattle.safety_law.proofs.Known.{opens-apart}
 use Rattle.headline_law.specs.Present.{FitsAsNamed}
 use Rattle.headline_law.proofs.Present.{IsVoted, seen-in, voted-by}
 use Rattle.headline_law.proofs.Fitting.{WritesOnce, held-one, held-some, input-fits, writes-once}

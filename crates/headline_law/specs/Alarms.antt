@@ -28,7 +28,7 @@ use Rattle.protocol_spec.specs.Chain.Words.{Has}
 use Rattle.world_spec.specs.Setting.{Setting}
 use Rattle.world_spec.specs.Run.{report}
 use Rattle.world_spec.specs.Assumptions.{IsHonestRun}
-use Rattle.sequence_law.specs.Orderly.{AreApart}
+use Rattle.block_law.specs.Orderly.{AreApart}
 
 -- `fork K T1 T2`, if a member meets two certificates that consume one version, and `halted T1 T2` ever after
 abbrev pub halts_vote : VoteText → Bool

@@ -1,7 +1,7 @@
 -- The versions of shared objects along an admitted list. Source: Sui Lutris (shared versions).
 use Rattle.std.specs.Prelude.{◌≡◌, ◌<◌, ℕ, true, List, []}
 use Rattle.chain_types.specs.declared.objects.Object.{Object}
-use Rattle.answer_types.specs.declared.answers.Assigned.{Assigned}
+use Rattle.protocol_spec.specs.declared.answers.Assigned.{Assigned}
 use Rattle.protocol_spec.specs.Chain.Words.{Has, Along}
 use Rattle.protocol_spec.specs.Chain.Certificates.{Rules}
 use Rattle.protocol_spec.specs.Member.Admission.{Admitted}

@@ -13,7 +13,7 @@ use Rattle.world_spec.specs.Setting.{Setting}
 use Rattle.world_spec.specs.World.{Seat, new_world, said_by, member_in, is_honest}
 use Rattle.world_spec.specs.Run.{world_after}
 use Rattle.world_spec.specs.Assumptions.{NoForgery}
-use Rattle.agreement_law.specs.Checkpointed.{admitted_in}
+use Rattle.safety_law.specs.Checkpointed.{admitted_in}
 
 -- no pending certificate is free, whatever was seen
 abbrev pub NothingFreeWaits : Type 0

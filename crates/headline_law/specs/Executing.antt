@@ -1,7 +1,7 @@
 -- What a `run` line of a schedule executes, in any run. Source: Sui Lutris (execution of certificates); this profile
 -- (rounds, the report).
 use Rattle.std.specs.Prelude.{◌≡◌, ◌⊎◌, ℕ, true, false, nat_le, List, [], ◌∷◌, ◌++◌, slice_get, Some, None}
-use Rattle.answer_types.specs.declared.answers.Held.{Held}
+use Rattle.protocol_spec.specs.declared.answers.Held.{Held}
 use Rattle.schedule_text.specs.declared.words.Event.{Event}
 use Rattle.schedule_text.specs.declared.words.Event.TheVariants as event
 use Rattle.protocol_spec.specs.Chain.Words.{Has}

@@ -12,7 +12,7 @@ use Rattle.world_spec.specs.Setting.{Setting, Trust, setting_of}
 use Rattle.world_spec.specs.World.{Seat, member_in}
 use Rattle.world_spec.specs.Run.{world_after}
 use Rattle.world_spec.specs.Assumptions.{IsFinal, IsHonestRun}
-use Rattle.sequence_law.specs.Orderly.{AreApart}
+use Rattle.block_law.specs.Orderly.{AreApart}
 use Rattle.headline_law.specs.Stated.{HasExecuted}
 
 -- one of these checkpoints, of this epoch, has the transaction, with these effects, and none of the epoch has it with others

@@ -10,9 +10,9 @@ use Rattle.chain_types.specs.declared.transactions.Transaction.{Transaction}
 use Rattle.chain_types.specs.Digests.{consumed_keys, transaction_digest}
 use Rattle.chain_messages.specs.declared.messages.Certificate.{Certificate}
 use Rattle.journal_core.specs.declared.records.Record.TheVariants as record_as
-use Rattle.answer_types.specs.declared.answers.Held.{Held}
-use Rattle.answer_types.specs.declared.answers.Ran.{Ran}
-use Rattle.answer_types.specs.declared.refusals.TurnRefusal.TheVariants as no_turn
+use Rattle.protocol_spec.specs.declared.answers.Held.{Held}
+use Rattle.protocol_spec.specs.declared.answers.Ran.{Ran}
+use Rattle.protocol_spec.specs.declared.refusals.TurnRefusal.TheVariants as no_turn
 use Rattle.schedule_text.specs.declared.words.Schedule.{Schedule}
 use Rattle.schedule_text.specs.declared.words.Event.{Event}
 use Rattle.schedule_text.specs.Schedule.{schedule_of}
@@ -33,11 +33,11 @@ use Rattle.world_spec.specs.Run.{report, world_after}
 use Rattle.world_spec.specs.Assumptions.{IsCertified, IsFinal, IsHonestRun}
 use Rattle.block_law.specs.Money.{supply_sum}
 use Rattle.safety_law.specs.Owners.{all_handed}
-use Rattle.agreement_law.specs.AgreedEpochs.{AreOfThread}
-use Rattle.agreement_law.specs.Checkpointed.{IsBuilt}
-use Rattle.agreement_law.specs.Opened.{OpensAsLeft}
-use Rattle.agreement_law.specs.Past.{past_at}
-use Rattle.agreement_law.specs.Sums.{epoch_gas}
+use Rattle.safety_law.specs.AgreedEpochs.{AreOfThread}
+use Rattle.safety_law.specs.Checkpointed.{IsBuilt}
+use Rattle.safety_law.specs.Opened.{OpensAsLeft}
+use Rattle.safety_law.specs.Past.{past_at}
+use Rattle.safety_law.specs.Sums.{epoch_gas}
 use Rattle.headline_law.specs.Chained.{AreOneChain}
 use Rattle.headline_law.specs.Complete.{MayExecute}
 use Rattle.headline_law.specs.Runs.{ready_behind}

@@ -16,3 +16,6 @@ pub mod Printed
 pub mod Alarms
 pub mod Executing
 pub mod Headline
+pub mod Blame
+pub mod Checked
+pub mod Followed

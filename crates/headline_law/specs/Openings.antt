@@ -12,8 +12,8 @@ use Rattle.world_spec.specs.World.{Seat, member_in}
 use Rattle.world_spec.specs.Openings.{opening_at}
 use Rattle.world_spec.specs.Run.{world_after}
 use Rattle.world_spec.specs.Assumptions.{IsHonestRun}
-use Rattle.sequence_law.specs.Orderly.{AreApart}
-use Rattle.agreement_law.specs.Sums.{GasHeldBefore}
+use Rattle.block_law.specs.Orderly.{AreApart}
+use Rattle.safety_law.specs.Sums.{GasHeldBefore}
 use Rattle.headline_law.specs.Amounts.{HoldsAmount}
 
 -- one thread that executes any transactions in order leaves amounts, if it started from amounts

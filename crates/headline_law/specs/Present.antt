@@ -6,7 +6,7 @@ use Rattle.chain_types.specs.declared.transactions.Transaction.{Transaction}
 use Rattle.chain_types.specs.declared.transactions.Input.{Input}
 use Rattle.chain_types.specs.declared.transactions.Input.TheVariants as inputs
 use Rattle.chain_types.specs.Digests.{key_of}
-use Rattle.answer_types.specs.declared.answers.Held.{Held}
+use Rattle.protocol_spec.specs.declared.answers.Held.{Held}
 use Rattle.schedule_text.specs.declared.words.Event.{Event}
 use Rattle.protocol_spec.specs.Chain.Words.{Has}
 use Rattle.protocol_spec.specs.Chain.Keys.{has_shared_input, fits_input, fits}
@@ -18,7 +18,7 @@ use Rattle.world_spec.specs.Setting.{Setting}
 use Rattle.world_spec.specs.World.{Seat, member_in}
 use Rattle.world_spec.specs.Run.{world_after}
 use Rattle.world_spec.specs.Assumptions.{IsHonestRun}
-use Rattle.sequence_law.specs.Orderly.{AreApart}
+use Rattle.block_law.specs.Orderly.{AreApart}
 
 -- the version that an owned or immutable input names, of the origin that the certificate names
 abbrev pub IsPresent : Member → Input → Option Digest → Type 0

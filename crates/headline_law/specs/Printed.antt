@@ -17,7 +17,7 @@ use Rattle.world_spec.specs.Names.{made_named}
 use Rattle.world_spec.specs.Report.{lines_of}
 use Rattle.world_spec.specs.Run.{report, report_of, world_after}
 use Rattle.world_spec.specs.Assumptions.{IsFinal, IsHonestRun}
-use Rattle.sequence_law.specs.Orderly.{AreApart}
+use Rattle.block_law.specs.Orderly.{AreApart}
 use Rattle.headline_law.specs.Final.{StandsForGood}
 
 -- `final T: final by ..`

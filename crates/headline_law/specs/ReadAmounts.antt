@@ -10,7 +10,7 @@ use Rattle.world_spec.specs.Openings.{opening_at}
 use Rattle.world_spec.specs.Run.{world_after}
 use Rattle.world_spec.specs.Assumptions.{IsHonestRun}
 use Rattle.block_law.specs.Money.{cap_count, supply_sum}
-use Rattle.agreement_law.specs.Sums.{epoch_gas}
+use Rattle.safety_law.specs.Sums.{epoch_gas}
 use Rattle.headline_law.specs.Amounts.{IsAmount}
 
 -- the objects of its set-up are amounts, values too

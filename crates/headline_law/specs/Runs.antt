@@ -3,9 +3,9 @@
 use Rattle.std.specs.Prelude.{◌≡◌, ◌⊎◌, ℕ, true, false, nat_le, List, [], ◌∷◌, ◌++◌, slice_get, Option, Some, None, Ok, Err}
 use Rattle.std.specs.List.{list_all}
 use Rattle.digest_core.specs.declared.Digest.{Digest}
-use Rattle.answer_types.specs.declared.answers.Held.{Held}
-use Rattle.answer_types.specs.declared.answers.Ran.{Ran}
-use Rattle.answer_types.specs.declared.refusals.TurnRefusal.TheVariants as no_turn
+use Rattle.protocol_spec.specs.declared.answers.Held.{Held}
+use Rattle.protocol_spec.specs.declared.answers.Ran.{Ran}
+use Rattle.protocol_spec.specs.declared.refusals.TurnRefusal.TheVariants as no_turn
 use Rattle.schedule_text.specs.declared.words.Event.{Event}
 use Rattle.protocol_spec.specs.Chain.Words.{Has, Each}
 use Rattle.protocol_spec.specs.Chain.Certificates.{Rules}
@@ -18,8 +18,8 @@ use Rattle.world_spec.specs.Setting.{Setting}
 use Rattle.world_spec.specs.World.{Seat, member_in}
 use Rattle.world_spec.specs.Run.{world_after}
 use Rattle.world_spec.specs.Assumptions.{IsHonestRun}
-use Rattle.sequence_law.specs.Orderly.{AreApart}
-use Rattle.agreement_law.specs.Checkpointed.{IsBuilt}
+use Rattle.block_law.specs.Orderly.{AreApart}
+use Rattle.safety_law.specs.Checkpointed.{IsBuilt}
 
 -- no held certificate is ready after these executions
 abbrev pub IsRunOut : Books → List Execution → Type 0

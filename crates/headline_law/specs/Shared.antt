@@ -9,7 +9,7 @@ use Rattle.world_spec.specs.World.{Seat, member_in}
 use Rattle.world_spec.specs.Run.{world_after}
 use Rattle.world_spec.specs.Assumptions.{IsHonestRun}
 use Rattle.block_law.specs.Shared.{shared_since}
-use Rattle.sequence_law.specs.Orderly.{AreApart}
+use Rattle.block_law.specs.Orderly.{AreApart}
 
 -- versions of one id that these members have are shared since the same version, or none of them is shared
 abbrev pub ShareAlike : Member → Member → Type 0

@@ -4,8 +4,11 @@
 //! versions form one chain, and what is held with its inputs present, and admitted if shared, is ready.
 #![tactic(auto)]
 
+mod blame;
+mod certified;
 mod epochs;
 mod finality;
+mod followers;
 mod money;
 mod presence;
 mod readiness;
@@ -15,8 +18,15 @@ mod versions;
 
 ghost use Rattle.headline_law.specs.Headline.{EveryMomentHolds};
 
+pub use blame::{none_is_honest, they_have_more_than_a_third};
+pub use certified::{certified_agrees, certified_agrees_in_schedules, certified_is_built};
 pub use epochs::{counted_is_stated, ends_are_whole, nothing_free_waits};
 pub use finality::{final_is_agreed, final_once, final_stands, final_stands_in_schedules};
+pub use followers::{
+    followers_come_through, followers_come_through_in_schedules, followers_open_alike,
+    followers_open_alike_in_schedules, honest_checkpoints_are_followed,
+    honest_checkpoints_are_followed_in_schedules, looked_up_is_handed,
+};
 pub use money::{
     amounts_stay_amounts, gas_was_held, money_stays_amounts, openings_hold_amounts,
     read_currencies_are_backed, read_gas_alone_leaves, read_set_ups_are_amounts,

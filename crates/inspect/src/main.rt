@@ -4,12 +4,34 @@
 //! two votes of which an honest member casts at most one. `inspect states` writes how each member stands, and its live
 //! objects.
 //!
-//! [`inspect_core::inspect`] is the program over any source, sink and keeper; its clauses are what is promised. `main` hands
-//! it the real standard streams and a keeper in memory, ends with its status, and says on standard error what a status
+//! [`inspect`] is the program over any source, sink and keeper; its clauses are what is promised.
+//! [`questions::question_of`] says what the words ask, and [`fresh_keeper`] is a keeper in memory for its members.
+//! `main` hands it the real standard streams and a keeper in memory, ends with its status, and says on standard error what a status
 //! other than 0, 3 and 8 means.
 #![tactic(auto)]
 
-use inspect_core::{fresh_keeper, inspect};
+mod answer;
+mod ask;
+mod blame;
+mod blame_line;
+mod built;
+mod certified;
+mod chain;
+mod digest_lines;
+mod digests;
+mod lines;
+mod members;
+mod pairs;
+mod part;
+mod questions;
+mod sealing;
+mod state_lines;
+mod states;
+mod suspects;
+mod top;
+
+use crate::top::inspect;
+use committee_core::fresh_keeper;
 use outside::{Sink, Source};
 use outside_std::{InSource, OutSink};
 use std::alloc::{AllocError, Global};

@@ -1,7 +1,7 @@
 -- One step of the walk over the links of a chain.
 use Rattle.std.proofs.Common.{arith, subst, take, drop, get_or, ◌≡◌, ◌∙◌, ◌≤◌, ◌+◌, ◌-◌, ℕ, List, [], ◌∷◌, Option, Some, None, refl, sym, ap, length}
 use Rattle.std.specs.Prelude.{option_map}
-use Rattle.checkpoint_core.specs.Links.{HasNext, wanted_number}
+use Rattle.checkpoint_core.specs.Links.{wanted_number}
 use Rattle.protocol_spec.proofs.ListLemmas.{tail_is}
 use Rattle.protocol_spec.specs.Chain.Words.{first_some}
 use Rattle.light_check.specs.declared.chain.Link.{Link}
@@ -9,7 +9,7 @@ use Rattle.light_check.specs.declared.link.Tip.{Tip}
 use Rattle.light_check.specs.Certified.{Accepting}
 use Rattle.checkpoint_core.specs.Checkpoints.{checkpoint}
 use Rattle.light_check.specs.Chains.{AllShort}
-use Rattle.light_check.specs.Causes.{cause_of, first_bad, first_bad_from, place_of_tip, tip_of}
+use Rattle.light_check.specs.Causes.{cause_of, first_bad_from, place_of_tip, tip_of}
 use Rattle.light_check.proofs.Shorts.{link_short}
 use Rattle.light_check.proofs.Certifying.{number_goes_on}
 
@@ -17,10 +17,6 @@ use Rattle.light_check.proofs.Certifying.{number_goes_on}
 abbrev pub IsBehind : ℕ → Option Tip → Type 0
 IsBehind place None = place ≡ 0
 IsBehind place (Some tip) = tip.number + 1 ≡ place
-
-has_next : (place : ℕ) (before : Option Tip) → IsBehind place before → place ≤ 2147483647 → HasNext (option_map place_of_tip before)
-has_next place None is most = tt
-has_next place (Some tip) is most = omega (arith, is, most)
 
 wants_place : (place : ℕ) (before : Option Tip) → IsBehind place before → wanted_number (option_map place_of_tip before) ≡ place
 wants_place place None is = sym is
@@ -46,9 +42,6 @@ pub record Walks (stakes : List ℕ) (accepts : Accepting) (links : List Link) (
   pub short : AllShort rest
   pub behind : IsBehind place before
 
-pub starts_walk : (stakes : List ℕ) (accepts : Accepting) (links : List Link) → AllShort links → Walks stakes accepts links 0 None links
-starts_walk stakes accepts links short = record { same = refl; count = omega arith; short = short; behind = refl }
-
 pub goes_further : (stakes : List ℕ) (accepts : Accepting) (links rest : List Link) (place : ℕ) (before : Option Tip) (l : Link) (tip : Tip) → l ≡ get_or rest 0 l → 1 ≤ length rest
     → Walks stakes accepts links place before rest → cause_of stakes accepts before l ≡ None → tip ≡ tip_of l.checkpoint → Walks stakes accepts links (place + 1) (Some tip) (take (length rest - 1) (drop 1 rest))
 goes_further stakes accepts links [] place before l tip first some walks none is = absurd (omega (arith, some))
@@ -66,17 +59,3 @@ pub next_short : (stakes : List ℕ) (accepts : Accepting) (links rest : List Li
     → Walks stakes accepts links place before rest → checkpoint.short l.checkpoint
 next_short stakes accepts links [] place before l first some walks = absurd (omega (arith, some))
 next_short stakes accepts links (y ∷ ys) place before l first some walks = subst (λ (x : Link). checkpoint.short x.checkpoint) (sym first) (link_short y walks.short.0)
-
-pub next_has_number : (stakes : List ℕ) (accepts : Accepting) (links rest : List Link) (place : ℕ) (before : Option Tip) → length links ≤ 2147483647
-    → Walks stakes accepts links place before rest → HasNext (option_map place_of_tip before)
-next_has_number stakes accepts links rest place before few walks = has_next place before walks.behind (let count = walks.count in omega (arith, count, few))
-
--- and what is said if it is bad
-pub stops_at : (stakes : List ℕ) (accepts : Accepting) (links rest : List Link) (place : ℕ) (before : Option Tip) (l : Link) (cause : ℕ) → l ≡ get_or rest 0 l → 1 ≤ length rest
-    → Walks stakes accepts links place before rest → cause_of stakes accepts before l ≡ Some cause → first_bad stakes accepts links ≡ Some (place, cause)
-stops_at stakes accepts links [] place before l cause first some walks is = absurd (omega (arith, some))
-stops_at stakes accepts links (y ∷ ys) place before l cause first some walks is =
-    sym walks.same ∙ (ap (λ (x : Link). first_bad_from stakes accepts place before (x ∷ ys)) (sym first) ∙ there)
-  where
-    there : first_bad_from stakes accepts place before (l ∷ ys) ≡ Some (place, cause)
-    there = rw is refl

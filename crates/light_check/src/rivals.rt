@@ -104,7 +104,7 @@ fn sealed_both(
 /// Who is to blame for two certificates: if they are of two transactions of one epoch that consume one version, the
 /// first such version and the members whose seals stand under both; none otherwise. If the certificates are valid,
 /// and no honest member's seal stands under a statement that it did not make, none of these is honest, and they have
-/// more than a third of the stake (`blame_law`). A transaction can be encoded: each that was read can.
+/// more than a third of the stake (`headline_law`). A transaction can be encoded: each that was read can.
 pub fn blame(
     alloc: Global,
     one: &Certificate,

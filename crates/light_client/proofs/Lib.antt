@@ -1,5 +1,4 @@
 pub mod Among
-pub mod Passing
 pub mod Certified
 pub mod Votes
 pub mod Final

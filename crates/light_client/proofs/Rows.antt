@@ -1,16 +1,15 @@
 -- The rows of a list: how they grow, and that they name each seal.
-use Rattle.std.proofs.Common.{arith, subst, take, drop, get_or, ◌≡◌, ◌∙◌, ◌≤◌, ◌<◌, ◌+◌, ◌-◌, ◌++◌, ℕ, Bool, true, false, List, [], ◌∷◌, refl, sym, ap, length, append_assoc}
+use Rattle.std.proofs.Common.{arith, subst, take, drop, get_or, ◌≡◌, ◌∙◌, ◌≤◌, ◌+◌, ◌++◌, ℕ, Bool, true, false, List, [], ◌∷◌, refl, sym, ap, length, append_assoc}
 use Rattle.std.specs.Prelude.{◌||◌, map}
 use Rattle.std.specs.List.{list_any}
 use Rattle.std.proofs.lemmas.Bool.{and_from, eq-eqb}
-use Rattle.std.proofs.lemmas.List.{append-nil, length-append}
+use Rattle.std.proofs.lemmas.List.{length-append}
 use Rattle.std.proofs.lemmas.List.Folds.{list_any-append}
 use Rattle.std.proofs.lemmas.Slice.Eq.{bytes_eq-Decides}
 use Rattle.std.proofs.Math.Seq.{drop-append_seam, take-append_seam}
 use Rattle.wire_bcs.specs.Codec.{Codec}
 use Rattle.quorum_core.specs.declared.signer.Signer.TheVariants as signers
 use Rattle.chain_messages.specs.declared.messages.MemberSeal.{MemberSeal}
-use Rattle.protocol_spec.proofs.ListLemmas.{tail_is}
 use Rattle.protocol_spec.specs.Chain.Words.{Each}
 use Rattle.light_check.specs.Certified.{IsAccepted}
 use Rattle.light_client.specs.declared.accepted.SealRow.{SealRow}
@@ -24,42 +23,12 @@ pub next_of_each : {A : Type 0} (P : A → Type 0) (rest : List A) (x : A) → x
 next_of_each P [] x first some each = absurd (omega (arith, some))
 next_of_each P (y ∷ ys) x first some each = subst P (sym first) each.0
 
-pub rest_of_each : {A : Type 0} (P : A → Type 0) (rest : List A) → 1 ≤ length rest → Each P rest → Each P (take (length rest - 1) (drop 1 rest))
-rest_of_each P [] some each = absurd (omega (arith, some))
-rest_of_each P (y ∷ ys) some each = subst (Each P) (sym (tail_is y ys)) each.1
-
 -- ---- how a list grows
 
 -- what is listed so far, and what is left of all
 pub record SoFar {A : Type 0} (of : A → Under) (all : List A) (listing : Listing) (rest : List A) : Type 0 where
   pub rows : listing.rows ++ rows_from (length listing.statements) (map of rest) ≡ rows_from 0 (map of all)
   pub statements : listing.statements ++ statements_in (map of rest) ≡ statements_in (map of all)
-
-pub starts : {A : Type 0} (of : A → Under) (all : List A) (listing : Listing) → listing ≡ listed [] → SoFar of all listing all
-starts {A} of all listing empty = subst (λ (l : Listing). SoFar of all l all) (sym empty) (record { rows = refl; statements = refl })
-
-pub grows : {A : Type 0} (of : A → Under) (all rest : List A) (old new : Listing) (x : A) (statement : List ℕ) → x ≡ get_or rest 0 x → 1 ≤ length rest → SoFar of all old rest
-    → statement ≡ (of x).statement → new.rows ≡ old.rows ++ map (row_at (length old.statements) statement) (of x).seals → new.statements ≡ old.statements ++ statement
-    → SoFar of all new (take (length rest - 1) (drop 1 rest))
-grows of all [] old new x statement first some so is rows statements = absurd (omega (arith, some))
-grows {A} of all (y ∷ ys) old new x statement first some so is rows statements =
-    subst (λ (left : List A). SoFar of all new left) (sym (tail_is y ys)) (go (subst (λ (z : A). SoFar of all old (z ∷ ys)) (sym first) so))
-  where
-    size : length new.statements ≡ length old.statements + length statement
-    size = ap length statements ∙ length-append old.statements statement
-
-    go : SoFar of all old (x ∷ ys) → SoFar of all new ys
-    go so = record {
-      rows = rw (rows, size, is) (append_assoc old.rows _ _ ∙ so.rows);
-      statements = rw (statements, is) (append_assoc old.statements _ _ ∙ so.statements);
-    }
-
-same_listing : (r q : List SealRow) (s t : List ℕ) → r ≡ q → s ≡ t → (let l : Listing = record { rows = r; statements = s } in l) ≡ record { rows = q; statements = t }
-same_listing r q s t e f = cc (e, f)
-
-pub ends : {A : Type 0} (of : A → Under) (all rest : List A) (listing : Listing) → length rest < 1 → SoFar of all listing rest → listing ≡ listed (map of all)
-ends of all [] listing over so = same_listing _ _ _ _ (sym (append-nil listing.rows) ∙ so.rows) (sym (append-nil listing.statements) ∙ so.statements)
-ends of all (y ∷ ys) listing over so = absurd (omega (arith, over))
 
 -- ---- what it accepts
 

@@ -11,10 +11,10 @@ use Rattle.protocol_spec.specs.Chain.Certificates.{Rules, read_as}
 use Rattle.protocol_spec.specs.Member.Member.{Member, state}
 use Rattle.protocol_spec.specs.Member.Calls.{Call, votes, holds, sees, runs, closes, ends, turns, acks, due}
 use Rattle.safety_law.proofs.Apart.{state-push}
-use Rattle.text_law.proofs.Members.{IsFitMember, fit-step}
+use Rattle.run_law.proofs.Members.{IsFitMember, fit-step}
 use Rattle.lives_law.specs.Files.{IsReadBack, IsReadable}
 use Rattle.protocol_spec.specs.Member.Calls.{after_due}
-use Rattle.scene_spec.specs.Posts.{list_of}
+use Rattle.world_spec.specs.Posts.{list_of}
 use Rattle.run_law.proofs.SceneStarts.{Given, due-good, hold-bytes, vote-bytes}
 use Rattle.lives_law.specs.Files.{dues}
 

@@ -15,11 +15,11 @@ use Rattle.chain_messages.specs.declared.messages.Statement.TheVariants as state
 use Rattle.journal_core.specs.declared.records.RanItem.{RanItem}
 use Rattle.journal_core.specs.declared.records.Record.{Record}
 use Rattle.journal_core.specs.declared.records.Record.TheVariants as record_as
-use Rattle.answer_types.specs.declared.answers.Held.{Held}
-use Rattle.answer_types.specs.declared.answers.Ran.{Ran}
-use Rattle.answer_types.specs.declared.refusals.VoteRefusal.{VoteRefusal}
-use Rattle.answer_types.specs.declared.refusals.VoteRefusal.TheVariants as no_vote
-use Rattle.answer_types.specs.declared.refusals.RunRefusal.{RunRefusal}
+use Rattle.protocol_spec.specs.declared.answers.Held.{Held}
+use Rattle.protocol_spec.specs.declared.answers.Ran.{Ran}
+use Rattle.protocol_spec.specs.declared.refusals.VoteRefusal.{VoteRefusal}
+use Rattle.protocol_spec.specs.declared.refusals.VoteRefusal.TheVariants as no_vote
+use Rattle.protocol_spec.specs.declared.refusals.RunRefusal.{RunRefusal}
 use Rattle.protocol_spec.proofs.Checked.{few_inputs}
 use Rattle.protocol_spec.proofs.Equality.{origins_same}
 use Rattle.protocol_spec.proofs.ListLemmas.{and-second, each_has, each_join, find_has}
@@ -36,8 +36,8 @@ use Rattle.protocol_spec.specs.Member.Member.{Member, after, ballot, cast_of, st
 use Rattle.protocol_spec.specs.Member.Calls.{Call, votes, sees, runs, Voted, due, new_vote, new_vote_cases, ran_items, ran_record, run_answer, run_record, see_cases, see_record, vote_again, vote_on, vote_stopped, voted_as}
 use Rattle.protocol_spec.specs.Member.Replay.{is_allowed, is_some_list, is_vote_for, ran_item_eq, states_origins}
 use Rattle.safety_law.proofs.Apart.{none-each, state-push}
-use Rattle.text_law.proofs.Members.{AreOrigins, IsDigest, IsFitMember, IsFitStatement, digest-of, fit-none, fit-step, named-origins}
-use Rattle.text_law.proofs.SaidLines.{three}
+use Rattle.run_law.proofs.Members.{AreOrigins, IsDigest, IsFitMember, IsFitStatement, digest-of, fit-none, fit-step, named-origins}
+use Rattle.run_law.proofs.SaidLines.{three}
 use Rattle.lives_law.proofs.Along.{IsAllowedBehind, IsSound}
 
 abbrev IsFitVote : Result Voted VoteRefusal → Type 0

@@ -11,7 +11,7 @@ use Rattle.protocol_spec.specs.Chain.Words.{Each, IsFront}
 use Rattle.protocol_spec.specs.Chain.Certificates.{Rules}
 use Rattle.protocol_spec.specs.Member.Member.{Member, state}
 use Rattle.protocol_spec.specs.Member.Calls.{Call}
-use Rattle.scene_spec.specs.Worlds.{spelled}
+use Rattle.world_spec.specs.SceneWorlds.{spelled}
 use Rattle.lives_law.specs.Lives.{AreLives, Life, NothingIsTakenBack, last_records, records_after}
 use Rattle.lives_law.specs.Files.{AreLivesOf, AreRunsOn, Follows, IsIdleOn, IsLeft, IsLifeOn, IsReadBack, Run, dues, kept_of, records_of, records_read}
 use Rattle.lives_law.proofs.Along.{replayed-sound}

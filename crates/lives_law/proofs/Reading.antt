@@ -4,17 +4,17 @@ use Rattle.std.specs.Prelude.{◌≡◌, ℕ, ◌+◌, suc, Bool, true, false, c
 use Rattle.wire_bcs.specs.declared.fault.WireFault.{WireFault}
 use Rattle.chain_types.specs.declared.objects.Object.{Object}
 use Rattle.journal_core.specs.declared.records.Record.{Record}
-use Rattle.answer_types.specs.declared.refusals.StartRefusal.{StartRefusal}
-use Rattle.answer_types.specs.declared.refusals.StartRefusal.TheVariants as no_start
+use Rattle.protocol_spec.specs.declared.refusals.StartRefusal.{StartRefusal}
+use Rattle.protocol_spec.specs.declared.refusals.StartRefusal.TheVariants as no_start
 use Rattle.protocol_spec.specs.Chain.Words.{Each, IsFront, and_then}
 use Rattle.protocol_spec.specs.Chain.Certificates.{Rules}
 use Rattle.protocol_spec.specs.Member.Member.{Member, after, fresh, state}
 use Rattle.protocol_spec.specs.Member.Calls.{Call, after_due, due}
 use Rattle.protocol_spec.specs.Member.Replay.{is_allowed, replayed, replayed_from}
 use Rattle.world_spec.specs.World.{appended}
-use Rattle.scene_spec.specs.Posts.{list_of}
-use Rattle.scene_spec.specs.Starts.{read_record, started, started_from, taken_at}
-use Rattle.scene_spec.specs.Worlds.{spelled}
+use Rattle.world_spec.specs.Posts.{list_of}
+use Rattle.world_spec.specs.Starts.{read_record, started, started_from, taken_at}
+use Rattle.world_spec.specs.SceneWorlds.{spelled}
 use Rattle.safety_law.proofs.Apart.{state-push}
 use Rattle.lives_law.specs.Lives.{records_after}
 use Rattle.lives_law.specs.Files.{IsReadBack, dues, record_then, records_read}

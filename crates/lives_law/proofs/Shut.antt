@@ -10,10 +10,10 @@ use Rattle.chain_messages.specs.declared.messages.Statement.TheVariants as state
 use Rattle.journal_core.specs.declared.records.Record.{Record}
 use Rattle.journal_core.specs.declared.records.Record.TheVariants as record_as
 use Rattle.effects_core.specs.Effects.{digest_of_effects}
-use Rattle.answer_types.specs.declared.refusals.EndRefusal.{EndRefusal}
-use Rattle.answer_types.specs.declared.refusals.EndRefusal.TheVariants as no_end
-use Rattle.answer_types.specs.declared.refusals.AckRefusal.{AckRefusal}
-use Rattle.answer_types.specs.declared.refusals.AckRefusal.TheVariants as no_ack
+use Rattle.protocol_spec.specs.declared.refusals.EndRefusal.{EndRefusal}
+use Rattle.protocol_spec.specs.declared.refusals.EndRefusal.TheVariants as no_end
+use Rattle.protocol_spec.specs.declared.refusals.AckRefusal.{AckRefusal}
+use Rattle.protocol_spec.specs.declared.refusals.AckRefusal.TheVariants as no_ack
 use Rattle.protocol_spec.proofs.ListLemmas.{find_front}
 use Rattle.protocol_spec.specs.Chain.Words.{first_some, first_of, where_true, refused_or, unless_refused}
 use Rattle.protocol_spec.specs.Chain.Certificates.{Rules}

@@ -14,10 +14,10 @@ use Rattle.chain_messages.specs.declared.messages.Statement.TheVariants as state
 use Rattle.chain_messages.specs.declared.messages.Certificate.{Certificate}
 use Rattle.journal_core.specs.declared.records.Record.{Record}
 use Rattle.journal_core.specs.declared.records.Record.TheVariants as record_as
-use Rattle.answer_types.specs.declared.refusals.VoteRefusal.{VoteRefusal}
-use Rattle.answer_types.specs.declared.refusals.VoteRefusal.TheVariants as no_vote
-use Rattle.answer_types.specs.declared.refusals.HoldRefusal.{HoldRefusal}
-use Rattle.answer_types.specs.declared.refusals.HoldRefusal.TheVariants as no_hold
+use Rattle.protocol_spec.specs.declared.refusals.VoteRefusal.{VoteRefusal}
+use Rattle.protocol_spec.specs.declared.refusals.VoteRefusal.TheVariants as no_vote
+use Rattle.protocol_spec.specs.declared.refusals.HoldRefusal.{HoldRefusal}
+use Rattle.protocol_spec.specs.declared.refusals.HoldRefusal.TheVariants as no_hold
 use Rattle.protocol_spec.proofs.Equality.{digest_same, digest_self}
 use Rattle.protocol_spec.proofs.ListLemmas.{push_has, has_left, each_has, find-test, find_has}
 use Rattle.protocol_spec.proofs.Truth.{map_none, where_false}

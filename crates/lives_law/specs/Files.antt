@@ -14,9 +14,9 @@ use Rattle.protocol_spec.specs.Chain.Words.{Each, IsFront}
 use Rattle.protocol_spec.specs.Chain.Certificates.{Rules}
 use Rattle.protocol_spec.specs.Member.Member.{Member}
 use Rattle.protocol_spec.specs.Member.Calls.{Call, acks, called, closes, due, ends, holds, runs, sees, turns, votes}
-use Rattle.scene_spec.specs.Posts.{list_of}
-use Rattle.scene_spec.specs.Starts.{read_record, started}
-use Rattle.scene_spec.specs.Worlds.{spelled}
+use Rattle.world_spec.specs.Posts.{list_of}
+use Rattle.world_spec.specs.Starts.{read_record, started}
+use Rattle.world_spec.specs.SceneWorlds.{spelled}
 use Rattle.lives_law.specs.Lives.{AreLives, Life, NothingIsTakenBack, last_records}
 
 -- ---- the records in a file

@@ -1,9 +1,9 @@
 -- The form of each argument of a native: a number, an object or a list of objects, as its mode says.
 use Rattle.std.specs.Prelude.{ℕ, Bool, true, false, ◌&&◌, List, [], ◌∷◌, slice_get, Option, Some, None}
-use Rattle.answer_types.specs.declared.pieces.Given.{Given}
-use Rattle.answer_types.specs.declared.pieces.Given.TheVariants as given
-use Rattle.answer_types.specs.declared.pieces.Mode.{Mode}
-use Rattle.answer_types.specs.declared.pieces.Mode.TheVariants as mode
+use Rattle.protocol_spec.specs.declared.pieces.Given.{Given}
+use Rattle.protocol_spec.specs.declared.pieces.Given.TheVariants as given
+use Rattle.protocol_spec.specs.declared.pieces.Mode.{Mode}
+use Rattle.protocol_spec.specs.declared.pieces.Mode.TheVariants as mode
 
 abbrev pub is_number : Given → Bool
 is_number (given.Number n) = true

@@ -4,7 +4,7 @@ ghost use Rattle.std.specs.Prelude.{◌≡◌, IsTrue};
 ghost use Rattle.protocol_spec.specs.Block.Natives.{number_at, item_at, items_at};
 ghost use Rattle.native_calls.specs.Forms.{has_item};
 
-use answer_types::{Given, Item};
+use protocol_spec::{Given, Item};
 
 /// The number at a place.
 pub(crate) fn number_at(args: &[Given], place: usize) -> u64

@@ -8,8 +8,8 @@ ghost use Rattle.native_calls.specs.Sites.{site_of};
 use crate::contents::{amount_of, currency_of, holding, other_currency};
 use crate::gives::{gives_new, gives_nothing, one};
 use crate::place::Place;
-use answer_types::{Gave, Item};
 use chain_types::Content;
+use protocol_spec::{Gave, Item};
 use std::alloc::Global;
 use wire_bcs::OutOfMemory;
 

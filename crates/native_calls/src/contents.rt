@@ -3,8 +3,8 @@
 ghost use Rattle.std.specs.Prelude.{◌≡◌};
 ghost use Rattle.protocol_spec.specs.Block.Natives.{kind_of, currency_of, amount_of, with_amount, names_vault, may_be_shared, holding, other_currency};
 
-use answer_types::Item;
 use chain_types::{Content, Kind, ObjectId};
+use protocol_spec::Item;
 
 /// The kind of a content.
 pub fn kind_of(content: &Content) -> Kind

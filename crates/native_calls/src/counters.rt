@@ -7,7 +7,7 @@ ghost use Rattle.native_calls.specs.Sites.{site_of};
 use crate::contents::{amount_of, holding};
 use crate::gives::gives_nothing;
 use crate::place::Place;
-use answer_types::{Gave, Item};
+use protocol_spec::{Gave, Item};
 use std::alloc::Global;
 
 /// Raises a counter. Aborts with 1 if the sum is not an amount.

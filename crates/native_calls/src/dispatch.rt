@@ -12,9 +12,9 @@ use crate::native::{Native, native_of};
 use crate::owners::{freeze, share};
 use crate::place::Place;
 use crate::vaults::{vault_deposit, vault_new, vault_withdraw};
-use answer_types::{Gave, Given};
 use chain_types::Content;
 use digest_core::Digest;
+use protocol_spec::{Gave, Given};
 use std::alloc::Global;
 use wire_bcs::{OutOfMemory, Seq};
 

@@ -5,9 +5,9 @@ ghost use Rattle.protocol_spec.specs.Block.Natives.{new_item, gives, owned_by_al
 ghost use Rattle.native_calls.specs.Sites.{site_of};
 
 use crate::place::Place;
-use answer_types::{Gave, Item, Placed};
 use chain_types::{Content, ObjectId, Owner};
 use digest_core::created_id;
+use protocol_spec::{Gave, Item, Placed};
 use std::alloc::Global;
 use wire_bcs::{OutOfMemory, Seq};
 

@@ -4,8 +4,8 @@ ghost use Rattle.std.specs.Prelude.{◌≡◌, ◌≤◌, length, slice_get};
 ghost use Rattle.protocol_spec.specs.Block.Natives.{mode_of, parameters_of};
 
 use crate::native::{Native, native_of};
-use answer_types::Mode;
 use chain_types::Kind;
+use protocol_spec::Mode;
 
 /// The mode at a place.
 fn at(modes: &[Mode], place: u16) -> Option<Mode>

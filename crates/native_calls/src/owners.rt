@@ -8,8 +8,8 @@ ghost use Rattle.native_calls.specs.Sites.{site_of};
 use crate::contents::may_be_shared;
 use crate::gives::gives_owner;
 use crate::place::Place;
-use answer_types::{Gave, Item};
 use chain_types::Owner;
+use protocol_spec::{Gave, Item};
 use std::alloc::Global;
 
 /// Shares an object from the version of the transaction on. Aborts with 1 if this block did not

@@ -1,5 +1,5 @@
 -- What is owed of a whole, while it is written part by part.
-use Rattle.std.proofs.Common.{ℕ, List, [], ◌++◌, Option, refl, sym, ap, ◌∙◌, append_assoc, append-nil, subst, take, drop, take-append-drop}
+use Rattle.std.proofs.Common.{ℕ, List, [], ◌++◌, Option, refl, sym, ◌∙◌, append_assoc, append-nil, subst, take, drop, take-append-drop}
 use Rattle.std.specs.Io.KnownBytes.{Appends}
 use Rattle.std.proofs.KnownBytes.{Appends-nil, Appends-trans}
 use Rattle.outside.specs.Streams.{AppendsFront, Owes}
@@ -12,15 +12,6 @@ owes_all a whole = ([], refl, Appends-nil a)
 pub owes_less : (a b c : Option (List ℕ)) (part rest whole : List ℕ) → Owes a b (part ++ rest) whole → Appends b c part → Owes a c rest whole
 owes_less a b c part rest whole (front, cut, done) more =
     (front ++ part, cut ∙ sym (append_assoc front part rest), Appends-trans a b c front part done more)
-
--- a prefix of the first part was written, and no more will be
-pub owes_cut : (a b c : Option (List ℕ)) (part rest whole : List ℕ) → Owes a b (part ++ rest) whole → AppendsFront b c part → AppendsFront a c whole
-owes_cut a b c part rest whole (front, cut, done) (more, left, split, extra) = (
-  front ++ more,
-  left ++ rest,
-  cut ∙ ap (λ p. front ++ (p ++ rest)) split ∙ ap (λ t. front ++ t) (append_assoc more left rest) ∙ sym (append_assoc front more (left ++ rest)),
-  Appends-trans a b c front more done extra,
-)
 
 -- what is written is a prefix
 pub owes_some : (a b : Option (List ℕ)) (rest whole : List ℕ) → Owes a b rest whole → AppendsFront a b whole

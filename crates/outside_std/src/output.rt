@@ -26,7 +26,7 @@ impl<W: Write + Drop> OutSink<W> {
 }
 
 impl<W: Write + Drop> OutSink<BufWriter<W>> {
-    /// Hands on what the writer holds back. True only if nothing is held back any more, and no error came on the way; else
+    /// Hands on what the writer holds back. True only if nothing is held back any more, and then all of it has arrived; else
     /// the count of faults has risen.
     #[tactic(auto, using(crate::proofs::Handing::handed_on))]
     pub fn finish(&mut self) -> bool

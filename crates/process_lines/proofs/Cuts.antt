@@ -11,9 +11,6 @@ use Rattle.std.proofs.lemmas.Iterator.Adapters.{position_from-zero}
 use Rattle.process_lines.specs.declared.line_reader.Part.{Part}
 use Rattle.process_lines.specs.Lines.{HasNoEnd, IsAlong, IsCutAt, IsPart, Reads, ReadsEnd, ReadsLine, Takes, added, got_in, longest_line}
 
-is_end : ℕ → Bool
-is_end b = b == 10
-
 -- ---- where the first line ends
 
 before : (bytes : List ℕ) (place k d : ℕ) → ((i : ℕ) → i < place → (get_or bytes i 0 == 10) ≡ false) → k < length (take place bytes) → (get_or (take place bytes) k d == 10) ≡ false

@@ -15,39 +15,36 @@ use Rattle.checkpoint_core.specs.declared.checkpoints.Checkpoint.{Checkpoint}
 use Rattle.checkpoint_core.specs.Checkpoints as checkpoints
 use Rattle.effects_core.specs.declared.effects.Effects.{Effects}
 use Rattle.effects_core.specs.Effects as effects_as
-use Rattle.answer_types.specs.declared.answers.Ignore.{Ignore}
-use Rattle.answer_types.specs.declared.answers.Ignore.TheVariants as ignore
-use Rattle.answer_types.specs.declared.answers.Left.{Left}
-use Rattle.answer_types.specs.declared.answers.Ran.{Ran}
-use Rattle.answer_types.specs.declared.answers.Seen.{Seen}
-use Rattle.answer_types.specs.declared.answers.SeenWhat.{SeenWhat}
-use Rattle.answer_types.specs.declared.answers.SeenWhat.TheVariants as seen
-use Rattle.answer_types.specs.declared.answers.Voted.{Voted}
-use Rattle.answer_types.specs.declared.refusals.VoteRefusal.{VoteRefusal}
-use Rattle.answer_types.specs.declared.refusals.VoteRefusal.TheVariants as no_vote
-use Rattle.answer_types.specs.declared.refusals.HoldRefusal.{HoldRefusal}
-use Rattle.answer_types.specs.declared.refusals.HoldRefusal.TheVariants as no_hold
-use Rattle.answer_types.specs.declared.refusals.SeeRefusal.{SeeRefusal}
-use Rattle.answer_types.specs.declared.refusals.SeeRefusal.TheVariants as no_see
-use Rattle.answer_types.specs.declared.refusals.RunRefusal.{RunRefusal}
-use Rattle.answer_types.specs.declared.refusals.RunRefusal.TheVariants as no_run
-use Rattle.answer_types.specs.declared.refusals.CloseRefusal.{CloseRefusal}
-use Rattle.answer_types.specs.declared.refusals.CloseRefusal.TheVariants as no_close
-use Rattle.answer_types.specs.declared.refusals.EndRefusal.{EndRefusal}
-use Rattle.answer_types.specs.declared.refusals.EndRefusal.TheVariants as no_end
-use Rattle.answer_types.specs.declared.refusals.TurnRefusal.{TurnRefusal}
-use Rattle.answer_types.specs.declared.refusals.TurnRefusal.TheVariants as no_turn
-use Rattle.answer_types.specs.declared.refusals.AckRefusal.{AckRefusal}
-use Rattle.answer_types.specs.declared.refusals.AckRefusal.TheVariants as no_ack
+use Rattle.protocol_spec.specs.declared.answers.Ignore.{Ignore}
+use Rattle.protocol_spec.specs.declared.answers.Ignore.TheVariants as ignore
+use Rattle.protocol_spec.specs.declared.answers.Left.{Left}
+use Rattle.protocol_spec.specs.declared.answers.Ran.{Ran}
+use Rattle.protocol_spec.specs.declared.answers.Seen.{Seen}
+use Rattle.protocol_spec.specs.declared.answers.SeenWhat.{SeenWhat}
+use Rattle.protocol_spec.specs.declared.answers.SeenWhat.TheVariants as seen
+use Rattle.protocol_spec.specs.declared.answers.Voted.{Voted}
+use Rattle.protocol_spec.specs.declared.refusals.VoteRefusal.{VoteRefusal}
+use Rattle.protocol_spec.specs.declared.refusals.VoteRefusal.TheVariants as no_vote
+use Rattle.protocol_spec.specs.declared.refusals.HoldRefusal.{HoldRefusal}
+use Rattle.protocol_spec.specs.declared.refusals.HoldRefusal.TheVariants as no_hold
+use Rattle.protocol_spec.specs.declared.refusals.SeeRefusal.{SeeRefusal}
+use Rattle.protocol_spec.specs.declared.refusals.SeeRefusal.TheVariants as no_see
+use Rattle.protocol_spec.specs.declared.refusals.RunRefusal.{RunRefusal}
+use Rattle.protocol_spec.specs.declared.refusals.RunRefusal.TheVariants as no_run
+use Rattle.protocol_spec.specs.declared.refusals.CloseRefusal.{CloseRefusal}
+use Rattle.protocol_spec.specs.declared.refusals.CloseRefusal.TheVariants as no_close
+use Rattle.protocol_spec.specs.declared.refusals.EndRefusal.{EndRefusal}
+use Rattle.protocol_spec.specs.declared.refusals.EndRefusal.TheVariants as no_end
+use Rattle.protocol_spec.specs.declared.refusals.TurnRefusal.{TurnRefusal}
+use Rattle.protocol_spec.specs.declared.refusals.TurnRefusal.TheVariants as no_turn
+use Rattle.protocol_spec.specs.declared.refusals.AckRefusal.{AckRefusal}
+use Rattle.protocol_spec.specs.declared.refusals.AckRefusal.TheVariants as no_ack
 use Rattle.process_lines.specs.declared.looks.Counts.{Counts}
 use Rattle.process_lines.specs.declared.starts.StartLine.{StartLine}
 use Rattle.process_lines.specs.declared.starts.StartLine.TheVariants as start
 use Rattle.process_lines.specs.Pieces.{digest_text, hex_text, key_text}
 
 -- ---- parts
-
-abbrev pub refused_text : List ℕ → List ℕ
-refused_text cause = codes "refused " ++ cause
 
 abbrev pub halted_text : Digest → Digest → List ℕ
 halted_text first second = concat (codes "refused halted " ∷ digest_text first ∷ codes " " ∷ digest_text second ∷ [])

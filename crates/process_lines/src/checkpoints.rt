@@ -29,7 +29,7 @@ fn print_built_one(out: &mut Seq<u8>, built: &HashedCheckpoint) -> Result<(), Ou
 
 /// ` checkpoint N` for each checkpoint that was built.
 #[tactic(auto, unfolding(crate::specs::Texts::built_text))]
-pub fn print_built(out: &mut Seq<u8>, built: &[HashedCheckpoint]) -> Result<(), OutOfMemory>
+pub(crate) fn print_built(out: &mut Seq<u8>, built: &[HashedCheckpoint]) -> Result<(), OutOfMemory>
     ensures { OnOk result (out.new ≡ out.old ++ built_text built.now) }
 {
     for checkpoint in built {

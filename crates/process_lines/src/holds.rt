@@ -5,9 +5,9 @@ ghost use Rattle.process_lines.specs.Texts.{cert_refusal_text, held_text, hold_r
 
 use crate::faults::{print_fork, print_halted, print_malformed, print_wrong_epoch};
 use crate::pieces::{Piece, print};
-use answer_types::HoldRefusal;
 use chain_types::CertRefusal;
 use digest_core::Digest;
+use protocol_spec::HoldRefusal;
 use wire_bcs::{OutOfMemory, Seq};
 
 /// `held ID`, or `again ID` if a certificate of the transaction was held before.

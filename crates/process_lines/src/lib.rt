@@ -21,7 +21,7 @@ mod stated;
 mod turns;
 mod votes;
 
-pub use checkpoints::{print_built, print_checkpoint, print_none};
+pub use checkpoints::{print_checkpoint, print_none};
 pub use holds::{print_held, print_hold_refusal};
 pub use line_reader::{Got, LineReader};
 pub use looks::{Counts, print_effects, print_object, print_state};

@@ -7,8 +7,8 @@ ghost use Rattle.process_lines.specs.Texts.{executed_text, left_text, ran_text, 
 use crate::checkpoints::print_built;
 use crate::faults::print_halted;
 use crate::pieces::{Piece, print};
-use answer_types::{Left, Ran, RunRefusal};
 use effects_core::HashedEffects;
+use protocol_spec::{Left, Ran, RunRefusal};
 use wire_bcs::{OutOfMemory, Seq};
 
 /// ` ID EFFECTS_DIGEST`

@@ -6,8 +6,8 @@ ghost use Rattle.process_lines.specs.Texts.{digest_word, digests_text, ignored_t
 use crate::checkpoints::print_built;
 use crate::faults::{print_fork, print_halted};
 use crate::pieces::{Piece, print};
-use answer_types::{Ignore, SeeRefusal, Seen, SeenWhat};
 use digest_core::Digest;
+use protocol_spec::{Ignore, SeeRefusal, Seen, SeenWhat};
 use wire_bcs::{OutOfMemory, Seq};
 
 /// ` ID`

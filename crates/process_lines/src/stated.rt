@@ -6,8 +6,8 @@ ghost use Rattle.process_lines.specs.Texts.{ack_refusal_text, ack_text, end_refu
 
 use crate::faults::print_halted;
 use crate::pieces::{Piece, print};
-use answer_types::{AckRefusal, EndRefusal};
 use chain_messages::{Sealed, encode_sealed};
+use protocol_spec::{AckRefusal, EndRefusal};
 use wire_bcs::{OutOfMemory, Seq};
 
 /// `end SEALED`

@@ -6,8 +6,8 @@ ghost use Rattle.process_lines.specs.Texts.{close_refusal_text, closed_text, tur
 use crate::faults::print_halted;
 use crate::pieces::{Piece, print};
 use crate::sees::print_digests;
-use answer_types::{CloseRefusal, TurnRefusal};
 use digest_core::Digest;
+use protocol_spec::{CloseRefusal, TurnRefusal};
 use wire_bcs::{OutOfMemory, Seq};
 
 /// `closed`, or `again` if the member was closed before.

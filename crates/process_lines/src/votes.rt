@@ -8,10 +8,10 @@ ghost use Rattle.process_lines.specs.Texts.{vote_refusal_text, voted_text};
 
 use crate::faults::{print_halted, print_malformed, print_wrong_epoch};
 use crate::pieces::{Piece, print};
-use answer_types::{VoteRefusal, Voted};
 use chain_messages::encode_sealed;
 use chain_types::ObjectKey;
 use digest_core::Digest;
+use protocol_spec::{VoteRefusal, Voted};
 use wire_bcs::{OutOfMemory, Seq};
 
 /// `voted SEALED`, or `again SEALED` if the vote was given before.

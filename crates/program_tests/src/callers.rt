@@ -2,7 +2,7 @@
 
 use crate::members::{member_from, sealer};
 use crate::same::{holds, same};
-use answer_types::VoteRefusal;
+use protocol_spec::VoteRefusal;
 use std::alloc::Global;
 use std::sync::Wait;
 use std::thread::Threads;

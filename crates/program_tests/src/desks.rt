@@ -7,10 +7,10 @@ ghost use Rattle.vote_desk.specs.Views.{whole};
 
 use crate::members::{joined, member_from, sealer};
 use crate::same::same;
-use answer_types::{VoteRefusal, Voted};
 use chain_types::{Address, Content, Object, ObjectId, Owner, object_digest};
 use digest_core::{Digest, genesis_id};
 use outside::{Keeper, MemKeeper};
+use protocol_spec::{VoteRefusal, Voted};
 use quorum_core::{KeyedSeal, Sealer, Signer};
 use std::alloc::{AllocError, Global};
 use std::sync::Wait;

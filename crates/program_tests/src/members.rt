@@ -1,16 +1,16 @@
 //! Members that are a committee by themselves, over the objects of set-up lines.
 
 ghost use Rattle.std.specs.Prelude.{◌≡◌, IfOk, IfSome};
-ghost use Rattle.scene_spec.specs.Starts.{AreApart};
+ghost use Rattle.world_spec.specs.Starts.{AreApart};
 
-use answer_types::StartRefusal;
 use chain_types::Object;
+use protocol_spec::StartRefusal;
 use quorum_core::{Committee, KeyedSeal};
 use schedule_text::{Setup, read_schedule};
 use std::alloc::Global;
 use validator_core::Validator;
 use wire_bcs::{OutOfMemory, Seq};
-use world_names::opening_of;
+use world_lines::Directory;
 
 /// The seals of the tests, under the program's secret.
 pub(crate) fn sealer() -> KeyedSeal {
@@ -43,9 +43,10 @@ fn started_over(
 ) -> Result<Validator, StartRefusal>
     ensures { IfOk result (λ member. member.member ≡ 0) }
 {
-    let Ok(opening) = opening_of(alloc, setup.as_slice()) else {
+    let Ok((directory, opening)) = Directory::with_opening(alloc, setup.as_slice()) else {
         return Err(StartRefusal::OutOfMemory);
     };
+    drop(directory);
     started_from(alloc, &opening, kept)
 }
 

@@ -15,7 +15,7 @@ use std::thread::Threads;
 use validator_core::{HoldRefusal, VoteRefusal};
 use wire_bcs::{OutOfMemory, Seq};
 use world_core::{Reply, RestartFault, Seats, Terms};
-use world_names::HeldDigests;
+use world_lines::HeldDigests;
 
 fn seats(alloc: Global) -> Result<Seats, Fail>
     ensures { IfOk result (λ seats. length seats.posts ≡ 2) }

@@ -5,9 +5,9 @@ ghost use Rattle.std.specs.Prelude.{◌≡◌};
 
 use crate::members::{joined, member_from, records, sealer, started};
 use crate::same::same;
-use answer_types::{AckRefusal, SeeRefusal, StartRefusal};
 use digest_core::Digest;
 use outside::{Keeper, MemKeeper};
+use protocol_spec::{AckRefusal, SeeRefusal, StartRefusal};
 use std::alloc::Global;
 use validator_core::Validator;
 use wire_bcs::Seq;

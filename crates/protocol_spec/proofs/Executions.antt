@@ -14,8 +14,8 @@ use Rattle.protocol_spec.specs.Chain.Keys.{is_shared_input}
 use Rattle.protocol_spec.specs.Member.Rounds.{wanted_by, Books, ready}
 use Rattle.protocol_spec.specs.Member.Versions.{Execution, opened, written_by, versions, is_executed, execution_of}
 use Rattle.digest_core.specs.declared.Digest.{Digest}
-use Rattle.answer_types.specs.declared.answers.Assigned.{Assigned}
-use Rattle.answer_types.specs.declared.answers.Held.{Held}
+use Rattle.protocol_spec.specs.declared.answers.Assigned.{Assigned}
+use Rattle.protocol_spec.specs.declared.answers.Held.{Held}
 use Rattle.chain_types.specs.declared.transactions.Input.TheVariants as inputs
 
 pub effects_tx : (t : Transaction) (objects : List Object) → (execution t objects).effects.tx ≡ transaction_digest t

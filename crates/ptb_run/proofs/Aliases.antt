@@ -1,7 +1,8 @@
 -- The causes with the places that were seen are those with the earlier arguments.
-use Rattle.std.proofs.Common.{◌≡◌, ℕ, Bool, true, false, ◌&&◌, ◌||◌, List, [], ◌∷◌, ◌++◌, map, Option, Some, None, refl, ap, sym, ◌∙◌, cond}
+use Rattle.std.proofs.Common.{◌≡◌, ℕ, ◌+◌, length, take, arith, append_assoc, length-append, Bool, true, false, ◌&&◌, ◌||◌, List, [], ◌∷◌, ◌++◌, map, Option, Some, None, refl, ap, sym, ◌∙◌, cond}
 use Rattle.std.specs.Prelude.{◌==◌}
 use Rattle.std.specs.List.{list_any}
+use Rattle.std.proofs.lemmas.List.{map-append, take_at}
 use Rattle.std.proofs.lemmas.Bool.{and_parts, eqb-true, eq-eqb, ne_eqb}
 use Rattle.chain_types.specs.declared.transactions.Argument.{Argument}
 use Rattle.chain_types.specs.declared.transactions.Argument.TheVariants as argument
@@ -16,7 +17,7 @@ use Rattle.ptb_run.specs.declared.value.Spot.TheVariants as spots
 use Rattle.ptb_run.specs.declared.needs.Wanted.{Wanted}
 use Rattle.ptb_run.specs.Values.{spot_at, spot_eq, spot_of}
 use Rattle.ptb_run.specs.Needs.{need_meant, wanted_of}
-use Rattle.ptb_run.specs.Causes.{cause_of, causes_after, is_seen, named_place_cause, named_value_cause, noted}
+use Rattle.ptb_run.specs.Causes.{cause_of, causes_after, causes_at, is_named, is_seen, named_place_cause, named_value_cause, noted}
 
 lies_at : (a : Argument) → spot_of (spot_at a) ≡ commands.place_of a
 lies_at argument.Gas = refl
@@ -110,3 +111,38 @@ causes_from t b c seen earlier agrees (w ∷ rest) =
 
 pub causes_are : (t : Transaction) (b : block.Block) (c : Command) (wanted : List Wanted) → causes_after t b c [] wanted ≡ commands.arguments_cause t b c [] (map wanted_of wanted)
 causes_are t b c wanted = causes_from t b c [] [] (λ p. refl) wanted
+
+argument_of : Wanted → Argument
+argument_of w = w.argument
+
+named_same : (earlier : List Wanted) (a : Argument) → is_named earlier (spot_at a) ≡ list_any (λ (e : Argument). block.place_eq (commands.place_of e) (commands.place_of a)) (map argument_of earlier)
+unfolding argument_of
+named_same [] a = refl
+named_same (w ∷ rest) a =
+    let own : spot_eq (spot_at a) (spot_at w.argument) ≡ block.place_eq (commands.place_of w.argument) (commands.place_of a)
+    = same_test (spot_at a) (spot_at w.argument)
+    ∙ ap (λ (q : block.Place). block.place_eq q (spot_of (spot_at a))) (lies_at w.argument)
+    ∙ ap (λ (q : block.Place). block.place_eq (commands.place_of w.argument) q) (lies_at a) in
+    ap (λ t. t || is_named rest (spot_at a)) own
+    ∙ ap (λ t. block.place_eq (commands.place_of w.argument) (commands.place_of a) || t) (named_same rest a)
+
+causes_from_place : (t : Transaction) (b : block.Block) (c : Command) (whole earlier : List Wanted) (place : ℕ) (rest : List Wanted)
+    → whole ≡ earlier ++ rest → length earlier ≡ place
+    → causes_at t b c whole place rest ≡ commands.arguments_cause t b c (map argument_of earlier) (map wanted_of rest)
+unfolding argument_of
+causes_from_place t b c whole earlier place [] e at = refl
+causes_from_place t b c whole earlier place (w ∷ rest) e at =
+    let before : take place whole ≡ earlier = ap (λ (l : List Wanted). take place l) e ∙ take_at earlier (w ∷ rest) place at in
+    let named : is_named (take place whole) (spot_at w.argument) ≡ list_any (λ (x : Argument). block.place_eq (commands.place_of x) (commands.place_of w.argument)) (map argument_of earlier)
+    = ap (λ (l : List Wanted). is_named l (spot_at w.argument)) before ∙ named_same earlier w.argument in
+    let first : cause_of t b c (is_named (take place whole) (spot_at w.argument)) w ≡ commands.argument_cause t b c (map argument_of earlier) w.argument (need_meant w.need)
+    = ap (λ (n : Bool). cause_of t b c n w) named ∙ cause_same t b c (map argument_of earlier) w in
+    let count : length (earlier ++ w ∷ []) ≡ place + 1 = let n = length-append earlier (w ∷ []) in omega (arith, n, at) in
+    let others = causes_from_place t b c whole (earlier ++ w ∷ []) (place + 1) rest (e ∙ sym (append_assoc earlier (w ∷ []) rest)) count in
+    ap (λ (x : Option ℕ). first_some (x ∷ causes_at t b c whole (place + 1) rest ∷ [])) first
+    ∙ ap (λ (x : Option ℕ). first_some (commands.argument_cause t b c (map argument_of earlier) w.argument (need_meant w.need) ∷ x ∷ []))
+    (others ∙ ap (λ (l : List Argument). commands.arguments_cause t b c l (map wanted_of rest)) (map-append argument_of earlier (w ∷ [])))
+
+-- the arguments one by one, each with those before it, are the arguments
+pub few_are : (t : Transaction) (b : block.Block) (c : Command) (wanted : List Wanted) → causes_at t b c wanted 0 wanted ≡ commands.arguments_cause t b c [] (map wanted_of wanted)
+few_are t b c wanted = causes_from_place t b c wanted [] 0 wanted refl refl

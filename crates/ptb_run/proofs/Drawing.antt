@@ -17,11 +17,11 @@ use Rattle.chain_types.specs.declared.transactions.Command.TheVariants as comman
 use Rattle.chain_types.specs.declared.transactions.Transaction.{Transaction}
 use Rattle.protocol_spec.specs.Chain.Words.{Each, first_some, refused_or, unless_refused}
 use Rattle.protocol_spec.specs.Chain.Shape.{arguments_of}
-use Rattle.answer_types.specs.declared.pieces.Gave.{Gave}
-use Rattle.answer_types.specs.declared.pieces.Gave.TheVariants as gave
-use Rattle.answer_types.specs.declared.pieces.Given.{Given}
-use Rattle.answer_types.specs.declared.pieces.Item.{Item}
-use Rattle.answer_types.specs.declared.pieces.Placed.{Placed}
+use Rattle.protocol_spec.specs.declared.pieces.Gave.{Gave}
+use Rattle.protocol_spec.specs.declared.pieces.Gave.TheVariants as gave
+use Rattle.protocol_spec.specs.declared.pieces.Given.{Given}
+use Rattle.protocol_spec.specs.declared.pieces.Item.{Item}
+use Rattle.protocol_spec.specs.declared.pieces.Placed.{Placed}
 use Rattle.protocol_spec.specs.Block.Natives.{Site, abort_if, amount_limit, amount_of, coin_burn, coin_mint, counter_add, counter_add_limited, counter_require, currency_of, gave_at, gives, holding, item_at, items_at, joined, may_be_shared, names_vault, native_gives, natives, number_at, other_currency, owned_by_all, parameters_of, share, vault_deposit, vault_new, vault_withdraw}
 use Rattle.protocol_spec.specs.Block.Block as block
 use Rattle.protocol_spec.specs.Block.Commands as commands

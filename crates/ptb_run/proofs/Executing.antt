@@ -10,7 +10,7 @@ use Rattle.chain_types.specs.Digests.{lamport_version}
 use Rattle.chain_types.specs.declared.objects.ObjectId.{ObjectId}
 use Rattle.effects_core.specs.declared.effects.Status.{Status}
 use Rattle.effects_core.specs.declared.effects.Status.TheVariants as status
-use Rattle.answer_types.specs.declared.pieces.Executed.{Executed}
+use Rattle.protocol_spec.specs.declared.pieces.Executed.{Executed}
 use Rattle.wire_bcs.specs.declared.seq.OutOfMemory.{OutOfMemory}
 use Rattle.protocol_spec.proofs.ListLemmas.{none_at}
 use Rattle.protocol_spec.proofs.Truth.{where_false_number}

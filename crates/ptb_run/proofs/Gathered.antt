@@ -3,9 +3,9 @@ use Rattle.std.proofs.Common.{◌≡◌, ℕ, zero, suc, ◌+◌, List, [], ◌�
 use Rattle.std.specs.Prelude.{slice_get}
 use Rattle.std.specs.List.{cons_option}
 use Rattle.chain_types.specs.declared.transactions.Argument.{Argument}
-use Rattle.answer_types.specs.declared.pieces.Item.{Item}
-use Rattle.answer_types.specs.declared.pieces.Mode.{Mode}
-use Rattle.answer_types.specs.declared.pieces.Mode.TheVariants as modes
+use Rattle.protocol_spec.specs.declared.pieces.Item.{Item}
+use Rattle.protocol_spec.specs.declared.pieces.Mode.{Mode}
+use Rattle.protocol_spec.specs.declared.pieces.Mode.TheVariants as modes
 use Rattle.protocol_spec.specs.Block.Natives.{parameters_of, mode_of}
 use Rattle.protocol_spec.specs.Block.Block as block
 use Rattle.protocol_spec.specs.Block.Commands as commands
@@ -61,19 +61,12 @@ dropped_none [] (suc place) e = refl
 dropped_none (x ∷ ms) zero e = absurd (cc)
 dropped_none (x ∷ ms) (suc place) e = dropped_none ms place e
 
-without_modes : (args : List Argument) → commands.paired args [] ≡ []
-without_modes [] = refl
-without_modes (a ∷ args) = refl
-
 meant_now : (m : Mode) → need_meant (need_now m) ≡ commands.need_of m
 meant_now modes.Number = refl
 meant_now (modes.ByValue k) = refl
 meant_now (modes.ByMut k) = refl
 meant_now (modes.ByRef k) = refl
 meant_now modes.Coins = refl
-
-without_args : (ms : List Mode) → commands.paired [] ms ≡ []
-without_args ms = refl
 
 pairs_from : (wanted : List Wanted) (native place : ℕ) (args : List Argument) → map wanted_of (pairs_after wanted native place args) ≡ map wanted_of wanted ++ commands.paired args (drop place (parameters_of native))
 unfolding mode_of

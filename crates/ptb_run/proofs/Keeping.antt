@@ -6,7 +6,7 @@ use Rattle.digest_core.specs.declared.Digest.{Digest}
 use Rattle.chain_types.specs.declared.objects.ObjectId.{ObjectId}
 use Rattle.chain_types.specs.Equal.{digest_eq}
 use Rattle.protocol_spec.proofs.Equality.{digest_same}
-use Rattle.answer_types.specs.declared.pieces.Item.{Item}
+use Rattle.protocol_spec.specs.declared.pieces.Item.{Item}
 use Rattle.ptb_run.specs.Drawn.{AreDrawn, drawn_id, new_ids}
 
 pushed : (tx : Digest) (from : ℕ) (ids : List ObjectId) (n : ℕ) (id : ObjectId) → AreDrawn tx from ids → from + length ids ≡ n → id ≡ drawn_id tx n → AreDrawn tx from (ids ++ id ∷ [])

@@ -1,13 +1,13 @@
 -- What leaves a block, and the rows of results that it gains.
 use Rattle.std.proofs.Common.{◌≡◌, ℕ, Bool, true, false, ◌+◌, ◌-◌, List, [], ◌∷◌, ◌++◌, length, map, Option, Some, None, refl, ap, sym, ◌∙◌, append-nil, append_assoc}
 use Rattle.std.specs.Prelude.{sum, if◌then◌else◌}
-use Rattle.std.specs.List.{enumerate_from}
+use Rattle.std.specs.List.{cons_option, enumerate_from}
 use Rattle.digest_core.specs.declared.Digest.{Digest}
 use Rattle.chain_types.specs.declared.objects.Kind.{Kind}
 use Rattle.chain_types.specs.declared.objects.Owner.{Owner}
 use Rattle.chain_types.specs.declared.transactions.Argument.{Argument}
-use Rattle.answer_types.specs.declared.pieces.Item.{Item}
-use Rattle.answer_types.specs.declared.pieces.Placed.{Placed}
+use Rattle.protocol_spec.specs.declared.pieces.Item.{Item}
+use Rattle.protocol_spec.specs.declared.pieces.Placed.{Placed}
 use Rattle.protocol_spec.specs.Block.Natives.{amount_of, currency_of, holding}
 use Rattle.protocol_spec.specs.Block.Block as block
 use Rattle.protocol_spec.specs.Block.Commands as commands
@@ -15,14 +15,18 @@ use Rattle.ptb_run.specs.declared.value.Value.{Value}
 use Rattle.ptb_run.specs.declared.value.Value.TheVariants as values
 use Rattle.ptb_run.specs.Blocks.{with_row}
 use Rattle.ptb_run.specs.Slots.{result_row}
-use Rattle.ptb_run.specs.Rows.{coins_after, items_row_after, new_coin, placed_after}
+use Rattle.ptb_run.specs.Rows.{coins_after, items_row_after, new_coin, placed_after, with_placed}
 
-placed_from : (placed : List Placed) (who : Owner) (items : List Item) → placed_after placed who items ≡ placed ++ map (commands.placed_at who) items
-placed_from placed who [] = sym (append-nil placed)
-placed_from placed who (item ∷ rest) = placed_from (placed ++ commands.placed_at who item ∷ []) who rest ∙ append_assoc placed (commands.placed_at who item ∷ []) (map (commands.placed_at who) rest)
+placed_from : (b : block.Block) (placed : List Placed) (who : Owner) (args : List Argument) → placed_after b.slots placed who args ≡ placed ++ map (commands.placed_at who) (commands.items_in b args)
+placed_from b placed who [] = sym (append-nil placed)
+placed_from b placed who (a ∷ rest) = placed_from b (with_placed placed who (commands.item_in b a)) who rest ∙ go (commands.item_in b a)
+  where
+    go : (found : Option Item) → with_placed placed who found ++ map (commands.placed_at who) (commands.items_in b rest) ≡ placed ++ map (commands.placed_at who) (cons_option found (commands.items_in b rest))
+    go None = refl
+    go (Some item) = append_assoc placed (commands.placed_at who item ∷ []) (map (commands.placed_at who) (commands.items_in b rest))
 
-pub placed_are : (placed : List Placed) (who : Owner) (items : List Item) → placed_after placed who items ≡ placed ++ map (commands.placed_at who) items
-placed_are = placed_from
+pub placed_are : (b : block.Block) (who : Owner) (args : List Argument) → placed_after b.slots b.placed who args ≡ b.placed ++ map (commands.placed_at who) (commands.items_in b args)
+placed_are b who args = placed_from b b.placed who args
 
 pub no_row : (c : ℕ) (b : block.Block) → with_row c [] b ≡ b
 no_row c b = ap (λ (l : List block.Slot). record b { slots = l }) (append-nil b.slots)
@@ -65,16 +69,14 @@ pub spent_beside : (b : block.Block) (placed : List Placed) (args : List Argumen
 spent_beside b placed [] = refl
 spent_beside b placed (a ∷ rest) = spent_beside (commands.spend a b) placed rest
 
-pub transfer_is : (b b1 b2 b3 : block.Block) (values : List Argument) (who : Owner) (items : List Item)
-    → items ≡ commands.items_in b values
-    → b1 ≡ record b { placed = b.placed ++ map (commands.placed_at who) items }
+pub transfer_is : (b b1 b2 b3 : block.Block) (values : List Argument) (who : Owner)
+    → b1 ≡ record b { placed = b.placed ++ map (commands.placed_at who) (commands.items_in b values) }
     → b2 ≡ commands.spend_all values b1
     → b3 ≡ b2
     → b3 ≡ record (commands.spend_all values b) { placed = b.placed ++ map (commands.placed_at who) (commands.items_in b values) }
-transfer_is b b1 b2 b3 values who items are placed spent added =
+transfer_is b b1 b2 b3 values who placed spent added =
     added ∙ spent ∙ ap (λ (x : block.Block). commands.spend_all values x) placed
-    ∙ spent_beside b (b.placed ++ map (commands.placed_at who) items) values
-    ∙ ap (λ (l : List Item). record (commands.spend_all values b) { placed = b.placed ++ map (commands.placed_at who) l }) are
+    ∙ spent_beside b (b.placed ++ map (commands.placed_at who) (commands.items_in b values)) values
 
 pub vector_is : (c : ℕ) (b b1 b2 : block.Block) (kind : Kind) (args : List Argument) (items : List Item) (row : List (Option Value))
     → items ≡ commands.items_in b args

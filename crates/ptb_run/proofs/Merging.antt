@@ -5,7 +5,7 @@ use Rattle.std.specs.List.{list_any}
 use Rattle.chain_types.specs.declared.transactions.Argument.{Argument}
 use Rattle.chain_types.specs.declared.transactions.Transaction.{Transaction}
 use Rattle.protocol_spec.specs.Chain.Words.{first_some, unless_refused, where_true}
-use Rattle.answer_types.specs.declared.pieces.Item.{Item}
+use Rattle.protocol_spec.specs.declared.pieces.Item.{Item}
 use Rattle.protocol_spec.specs.Block.Natives.{amount_limit, amount_of, currency_of}
 use Rattle.protocol_spec.specs.Block.Block as block
 use Rattle.protocol_spec.specs.Block.Commands as commands
@@ -31,10 +31,6 @@ not_over false total y e = refl
 is_over : (over : Bool) (total : ℕ) → None ≡ (if over then None else Some total) → over ≡ true
 is_over true total e = refl
 is_over false total e = absurd (cc)
-
-pub same_total : (over : Bool) (total y : ℕ) → Some y ≡ (if over then None else Some total) → y ≡ total
-same_total true total y e = absurd (cc)
-same_total false total y e = cc
 
 by_tests : (t : Transaction) (b : block.Block) (target : Argument) (found : Option Item) (item : Item) (items : List Item) (sources : List Argument) (over : Bool)
     → Some item ≡ found → items ≡ commands.items_in b sources

@@ -1,5 +1,5 @@
 -- The causes of the arguments of a command, if it is known which places earlier ones name.
-use Rattle.std.specs.Prelude.{ℕ, Bool, not, ◌&&◌, List, [], ◌∷◌, ◌++◌, Option, Some, None, if◌then◌else◌}
+use Rattle.std.specs.Prelude.{ℕ, ◌+◌, Bool, not, ◌&&◌, take, List, [], ◌∷◌, ◌++◌, Option, Some, None, if◌then◌else◌}
 use Rattle.std.specs.List.{list_any}
 use Rattle.chain_types.specs.declared.transactions.Command.{Command}
 use Rattle.chain_types.specs.declared.transactions.Transaction.{Transaction}
@@ -42,3 +42,12 @@ abbrev pub causes_after : Transaction → Block → Command → List Spot → Li
 causes_after t b c seen [] = None
 causes_after t b c seen (w ∷ rest) =
     first_some (cause_of t b c (is_seen seen (spot_at w.argument)) w ∷ causes_after t b c (noted seen (spot_at w.argument)) rest ∷ [])
+
+abbrev pub is_named : List Wanted → Spot → Bool
+is_named earlier spot = list_any (λ (w : Wanted). spot_eq spot (spot_at w.argument)) earlier
+
+-- the first cause of those of the arguments that are left from this place on
+abbrev pub causes_at : Transaction → Block → Command → List Wanted → ℕ → List Wanted → Option ℕ
+causes_at t b c whole place [] = None
+causes_at t b c whole place (w ∷ rest) =
+    first_some (cause_of t b c (is_named (take place whole) (spot_at w.argument)) w ∷ causes_at t b c whole (place + 1) rest ∷ [])

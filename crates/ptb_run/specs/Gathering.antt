@@ -1,7 +1,7 @@
 -- What is gathered from the places of arguments, one after the other.
 use Rattle.std.specs.Prelude.{ℕ, List, [], ◌∷◌, ◌++◌, Option, Some, None}
 use Rattle.chain_types.specs.declared.transactions.Argument.{Argument}
-use Rattle.answer_types.specs.declared.pieces.Item.{Item}
+use Rattle.protocol_spec.specs.declared.pieces.Item.{Item}
 use Rattle.protocol_spec.specs.Block.Block.{Block}
 use Rattle.protocol_spec.specs.Block.Commands.{item_in, number_in}
 

@@ -4,8 +4,8 @@ use Rattle.std.specs.Map.{lookup}
 use Rattle.chain_types.specs.declared.objects.ObjectId.{ObjectId}
 use Rattle.chain_types.specs.declared.objects.Object.{Object}
 use Rattle.chain_types.specs.Equal.{id_eq}
-use Rattle.answer_types.specs.declared.pieces.Item.{Item}
-use Rattle.answer_types.specs.declared.pieces.Placed.{Placed}
+use Rattle.protocol_spec.specs.declared.pieces.Item.{Item}
+use Rattle.protocol_spec.specs.declared.pieces.Placed.{Placed}
 use Rattle.protocol_spec.specs.Block.Block.{Block, value_in}
 use Rattle.protocol_spec.specs.Block.Commands.{piece_of}
 use Rattle.protocol_spec.specs.Block.Execution.{object_at}

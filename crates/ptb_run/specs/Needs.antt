@@ -2,12 +2,14 @@
 use Rattle.std.specs.Prelude.{ℕ, ◌+◌, Bool, true, false, List, [], ◌∷◌, ◌++◌, Option, Some, None}
 use Rattle.chain_types.specs.declared.objects.Kind.{Kind}
 use Rattle.chain_types.specs.declared.transactions.Argument.{Argument}
-use Rattle.answer_types.specs.declared.pieces.Mode.{Mode}
-use Rattle.answer_types.specs.declared.pieces.Mode.TheVariants as modes
+use Rattle.protocol_spec.specs.declared.pieces.Mode.{Mode}
+use Rattle.protocol_spec.specs.declared.pieces.Mode.TheVariants as modes
 use Rattle.protocol_spec.specs.Chain.Tests.{kind_eq}
 use Rattle.ptb_run.specs.declared.needs.Need.{Need}
 use Rattle.ptb_run.specs.declared.needs.Need.TheVariants as needs
 use Rattle.ptb_run.specs.declared.needs.Wanted.{Wanted}
+use Rattle.ptb_run.specs.declared.needs.Arguments.{Arguments}
+use Rattle.ptb_run.specs.declared.needs.Arguments.TheVariants as gathered
 use Rattle.protocol_spec.specs.Block.Natives.{mode_of}
 use Rattle.protocol_spec.specs.Block.Commands as commands
 
@@ -53,3 +55,10 @@ pair_then wanted a next (Some m) = next (wanted ++ record { argument = a; need =
 abbrev pub pairs_after : List Wanted → ℕ → ℕ → List Argument → List Wanted
 pairs_after wanted native place [] = wanted
 pairs_after wanted native place (a ∷ rest) = pair_then wanted a (λ (more : List Wanted). pairs_after more native (place + 1) rest) (mode_of native place)
+
+-- what was gathered, as a list
+abbrev pub listed : Arguments → List Wanted
+listed (gathered.One wanted) = wanted
+listed (gathered.Two wanted) = wanted
+listed (gathered.Three wanted) = wanted
+listed (gathered.Many wanted) = wanted

@@ -1,11 +1,14 @@
 -- What is added one after the other: results of commands, and objects that leave the block.
-use Rattle.std.specs.Prelude.{ℕ, ◌+◌, List, [], ◌∷◌, ◌++◌, Option, Some, true}
+use Rattle.std.specs.Prelude.{ℕ, ◌+◌, List, [], ◌∷◌, ◌++◌, Option, Some, None, true}
 use Rattle.digest_core.specs.declared.Digest.{Digest}
 use Rattle.digest_core.specs.Tagged.{created_id_of}
 use Rattle.chain_types.specs.declared.objects.Content.TheVariants as content
 use Rattle.chain_types.specs.declared.objects.Owner.{Owner}
-use Rattle.answer_types.specs.declared.pieces.Item.{Item}
-use Rattle.answer_types.specs.declared.pieces.Placed.{Placed}
+use Rattle.protocol_spec.specs.declared.pieces.Item.{Item}
+use Rattle.protocol_spec.specs.declared.pieces.Placed.{Placed}
+use Rattle.chain_types.specs.declared.transactions.Argument.{Argument}
+use Rattle.protocol_spec.specs.Block.Block.{Slot, value_in}
+use Rattle.protocol_spec.specs.Block.Commands.{piece_of, place_of}
 use Rattle.ptb_run.specs.declared.value.Value.{Value}
 use Rattle.ptb_run.specs.declared.value.Value.TheVariants as values
 
@@ -21,6 +24,10 @@ abbrev pub items_row_after : List (Option Value) → List Item → List (Option 
 items_row_after row [] = row
 items_row_after row (item ∷ rest) = items_row_after (row ++ Some (values.Object item) ∷ []) rest
 
-abbrev pub placed_after : List Placed → Owner → List Item → List Placed
-placed_after placed who [] = placed
-placed_after placed who (item ∷ rest) = placed_after (placed ++ record { item = item; owner = who } ∷ []) who rest
+abbrev pub with_placed : List Placed → Owner → Option Item → List Placed
+with_placed placed who None = placed
+with_placed placed who (Some item) = placed ++ record { item = item; owner = who } ∷ []
+
+abbrev pub placed_after : List Slot → List Placed → Owner → List Argument → List Placed
+placed_after slots placed who [] = placed
+placed_after slots placed who (a ∷ rest) = placed_after slots (with_placed placed who (piece_of (value_in (place_of a) slots))) who rest

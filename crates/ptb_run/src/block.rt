@@ -4,9 +4,10 @@ ghost use Rattle.std.specs.Prelude.{◌≡◌, ◌+◌, ◌<◌, ◌∷◌, ◌+
 ghost use Rattle.std.specs.List.{list_all, list_any};
 ghost use Rattle.protocol_spec.specs.Block.Execution.{is_unused};
 ghost use Rattle.protocol_spec.specs.Block.Block as block;
-ghost use Rattle.protocol_spec.specs.Block.Commands.{address_in, all_by, bytes_of, has_no_result, item_in, items_in, number_in, place_of, placed_at, placed_list, put_back, spend, spend_all};
+ghost use Rattle.protocol_spec.specs.Block.Commands.{address_in, all_by, bytes_of, has_no_result, item_in, items_in, number_in, piece_of, place_of, placed_at, placed_list, put_back, spend, spend_all};
 ghost use Rattle.ptb_run.specs.Blocks.{block_of, rows_of, with_row};
 ghost use Rattle.ptb_run.specs.Rows.{placed_after};
+ghost use Rattle.ptb_run.specs.Slots.{slots_of};
 ghost use Rattle.protocol_spec.specs.Block.Commands as commands;
 ghost use Rattle.ptb_run.specs.Gathering.{items_after, numbers_after};
 ghost use Rattle.ptb_run.specs.Drawn.{AreDrawn, new_ids};
@@ -15,9 +16,9 @@ ghost use Rattle.ptb_run.specs.Takes.{is_taken, value_given};
 use crate::drawn::DrawnIds;
 use crate::slots::Slots;
 use crate::value::{Value, spot_of};
-use answer_types::{Given, Item, Placed};
 use chain_types::{Address, Argument, Owner};
 use digest_core::Digest;
+use protocol_spec::{Given, Item, Placed};
 use std::alloc::Global;
 use wire_bcs::{OutOfMemory, Seq};
 
@@ -51,10 +52,7 @@ impl Block {
     pub(crate) fn item_in(&self, argument: &Argument) -> Option<Item>
         ensures { result ≡ item_in (block_of self.now) argument.now }
     {
-        match self.slots.at(spot_of(argument)) {
-            Some(Value::Object(item)) => Some(*item),
-            Some(Value::Pure(_)) | Some(Value::Vector { .. }) | None => None,
-        }
+        item_at(&self.slots, argument)
     }
 
     /// The pure bytes in the place of an argument.
@@ -96,7 +94,7 @@ impl Block {
     fn gather(&self, alloc: Global, args: &[Argument]) -> Result<Seq<Item>, OutOfMemory>
         ensures { IfOk result (λ items. items ≡ items_after (block_of self.now) [] args.now) }
     {
-        let mut items = Seq::new(alloc);
+        let mut items = Seq::with_room(alloc, args.len() as u64)?;
         let mut rest = args;
         while let [argument, after @ ..] = rest {
             if let Some(item) = self.item_in(argument) {
@@ -124,7 +122,7 @@ impl Block {
         requires { list_all (is_taken (block_of self.now)) (all_by commands.number args.now) ≡ true }
         ensures { IfOk result (λ numbers. numbers ≡ numbers_after (block_of self.now) [] args.now) }
     {
-        let mut numbers = Seq::new(alloc);
+        let mut numbers = Seq::with_room(alloc, args.len() as u64)?;
         let mut rest = args;
         while let [argument, after @ ..] = rest {
             numbers.push(self.number_in(argument))?;
@@ -250,22 +248,22 @@ impl Block {
         Ok(())
     }
 
-    /// Objects leave the block to an owner.
+    /// The objects in the places of arguments leave the block to an owner, one after the other.
     #[tactic(auto, unfolding(crate::specs::Blocks::block_of, crate::specs::Blocks::rows_of))]
-    fn place_each(&mut self, owner: Owner, items: &[Item]) -> Result<(), OutOfMemory>
-        ensures after { OnOk result (block_of self.new ≡ record (block_of self.old) { placed = placed_after (block_of self.old).placed owner items.now }) }
+    fn place_each(&mut self, owner: Owner, args: &[Argument]) -> Result<(), OutOfMemory>
+        ensures after { OnOk result (block_of self.new ≡ record (block_of self.old) { placed = placed_after (block_of self.old).slots (block_of self.old).placed owner args.now }) }
         ensures rows { rows_of self.new ≡ rows_of self.old }
     {
-        place_all(&mut self.placed, owner, items)
+        place_all(&mut self.placed, &self.slots, owner, args)
     }
 
-    /// Objects leave the block to an owner.
+    /// The objects in the places of arguments leave the block to an owner.
     #[tactic(auto, using(crate::proofs::Leaving::placed_are))]
-    pub(crate) fn place_all(&mut self, owner: Owner, items: &[Item]) -> Result<(), OutOfMemory>
-        ensures after { OnOk result (block_of self.new ≡ record (block_of self.old) { placed = (block_of self.old).placed ++ map (placed_at owner) items.now }) }
+    pub(crate) fn place_all(&mut self, owner: Owner, args: &[Argument]) -> Result<(), OutOfMemory>
+        ensures after { OnOk result (block_of self.new ≡ record (block_of self.old) { placed = (block_of self.old).placed ++ map (placed_at owner) (items_in (block_of self.old) args.now) }) }
         ensures rows { rows_of self.new ≡ rows_of self.old }
     {
-        self.place_each(owner, items)
+        self.place_each(owner, args)
     }
 
     /// Adds the results of the next command.
@@ -287,13 +285,30 @@ impl Block {
     }
 }
 
-/// Adds items that leave the block to an owner.
-fn place_all(placed: &mut Seq<Placed>, owner: Owner, items: &[Item]) -> Result<(), OutOfMemory>
-    ensures { OnOk result (placed.new ≡ placed_after placed.old owner items.now) }
+/// The object in the place of an argument.
+fn item_at(slots: &Slots, argument: &Argument) -> Option<Item>
+    ensures { result ≡ piece_of (block.value_in (place_of argument.now) (slots_of slots.now)) }
 {
-    let mut rest = items;
-    while let [item, after @ ..] = rest {
-        placed.push(Placed { item: *item, owner })?;
+    match slots.at(spot_of(argument)) {
+        Some(Value::Object(item)) => Some(*item),
+        Some(Value::Pure(_)) | Some(Value::Vector { .. }) | None => None,
+    }
+}
+
+/// Adds the objects in the places of arguments, which leave the block to an owner.
+fn place_all(
+    placed: &mut Seq<Placed>,
+    slots: &Slots,
+    owner: Owner,
+    args: &[Argument],
+) -> Result<(), OutOfMemory>
+    ensures { OnOk result (placed.new ≡ placed_after (slots_of slots.now) placed.old owner args.now) }
+{
+    let mut rest = args;
+    while let [argument, after @ ..] = rest {
+        if let Some(item) = item_at(slots, argument) {
+            placed.push(Placed { item, owner })?;
+        }
         rest = after;
     }
     Ok(())

@@ -18,8 +18,8 @@ use crate::commands::Site;
 use crate::halt::{Fault, Halt};
 use crate::needs::{Need, Wanted, takes_value};
 use crate::value::Value;
-use answer_types::{Gave, Given, Item, Placed};
 use native_calls::call;
+use protocol_spec::{Gave, Given, Item, Placed};
 use std::alloc::Global;
 use wire_bcs::{OutOfMemory, Seq};
 
@@ -44,7 +44,7 @@ fn give_each(alloc: Global, block: &Block, wanted: &[Wanted]) -> Result<Seq<Give
     requires { list_all (is_taken (block_of block.now)) (map wanted_of wanted.now) ≡ true }
     ensures { IfOk result (λ givens. givens ≡ givens_after (block_of block.now) [] wanted.now) }
 {
-    let mut givens = Seq::new(alloc);
+    let mut givens = Seq::with_room(alloc, wanted.len() as u64)?;
     let mut rest = wanted;
     while let [one, after @ ..] = rest {
         givens.push(given(alloc, block, one)?)?;
@@ -100,7 +100,7 @@ fn put_changed(block: &mut Block, wanted: &[Wanted], changed: Option<Item>)
 fn items_row(alloc: Global, items: &[Item]) -> Result<Seq<Option<Value>>, OutOfMemory>
     ensures { IfOk result (λ row. row ≡ items_row_after [] items.now) }
 {
-    let mut row = Seq::new(alloc);
+    let mut row = Seq::with_room(alloc, items.len() as u64)?;
     let mut rest = items;
     while let [item, after @ ..] = rest {
         row.push(Some(Value::Object(*item)))?;

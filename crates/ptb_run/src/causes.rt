@@ -1,10 +1,10 @@
 //! Why the arguments of a command may not be taken.
 
-ghost use Rattle.std.specs.Prelude.{◌≡◌, ◌++◌, ◌∷◌, [], IfOk, if◌then◌else◌, map, slice_get};
+ghost use Rattle.std.specs.Prelude.{◌≡◌, ◌≤◌, ◌++◌, ◌∷◌, [], IfOk, if◌then◌else◌, length, map, slice_get};
 ghost use Rattle.protocol_spec.specs.Block.Commands.{arguments_cause, is_common, is_frozen_place, is_pure, is_read_only, is_transfer, stays_in_place};
 ghost use Rattle.protocol_spec.specs.Chain.Words.{first_some};
 ghost use Rattle.ptb_run.specs.Blocks.{block_of};
-ghost use Rattle.ptb_run.specs.Causes.{cause_of, causes_after, is_seen, named_value_cause};
+ghost use Rattle.ptb_run.specs.Causes.{cause_of, causes_after, causes_at, is_named, is_seen, named_value_cause};
 ghost use Rattle.ptb_run.specs.Needs.{need_meant, wanted_of};
 ghost use Rattle.ptb_run.specs.Values.{spot_of, value_of};
 
@@ -161,8 +161,44 @@ fn first_cause(
     Ok(None)
 }
 
+/// Whether one of these arguments names the place.
+fn is_named(earlier: &[Wanted], spot: Spot) -> bool
+    ensures { result ≡ is_named earlier.now spot }
+{
+    for one in earlier {
+        if spot == spot_of(&one.argument) {
+            return true;
+        }
+    }
+    false
+}
+
+/// The same of few arguments, each of which is compared with those before it: a set of their places costs more.
+fn first_cause_of_few(
+    block: &Block,
+    tx: &Transaction,
+    command: &Command,
+    wanted: &[Wanted],
+) -> Option<u8>
+    requires few { length wanted.now ≤ 8 }
+    ensures { result ≡ causes_at tx.now (block_of block.now) command.now wanted.now 0 wanted.now }
+{
+    let mut place = 0;
+    let mut rest = wanted;
+    while let [one, after @ ..] = rest {
+        let (earlier, _) = wanted.split_at(place);
+        let named = is_named(earlier, spot_of(&one.argument));
+        if let Some(cause) = argument_cause(block, tx, command, named, one) {
+            return Some(cause);
+        }
+        place += 1;
+        rest = after;
+    }
+    None
+}
+
 /// The first cause of the arguments, from left to right.
-#[tactic(auto, using(crate::proofs::Aliases::causes_are))]
+#[tactic(auto, using(crate::proofs::Aliases::causes_are, crate::proofs::Aliases::few_are))]
 pub(crate) fn arguments_cause(
     alloc: Global,
     block: &Block,
@@ -172,5 +208,8 @@ pub(crate) fn arguments_cause(
 ) -> Result<Option<u8>, OutOfMemory>
     ensures { IfOk result (λ cause. cause ≡ arguments_cause tx.now (block_of block.now) command.now [] (map wanted_of wanted.now)) }
 {
+    if wanted.len() <= 8 {
+        return Ok(first_cause_of_few(block, tx, command, wanted));
+    }
     first_cause(alloc, block, tx, command, wanted)
 }

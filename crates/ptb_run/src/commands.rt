@@ -14,10 +14,10 @@ use crate::block::Block;
 use crate::drawn::DrawnIds;
 use crate::halt::{Fault, Halt};
 use crate::value::Value;
-use answer_types::Item;
 use chain_types::{Argument, Content, Kind, Owner, Transaction};
 use digest_core::Digest;
 use native_calls::contents::{amount_of, currency_of, holding};
+use protocol_spec::Item;
 use std::alloc::Global;
 use wire_bcs::{OutOfMemory, Seq};
 
@@ -34,27 +34,33 @@ fn sum_of_numbers(numbers: &[u64]) -> Option<u64>
     Some(total)
 }
 
-/// The sum of this amount and of what the items hold, if it is an amount.
-fn sum_from(start: u64, items: &[Item]) -> Option<u64>
-    ensures { let total = start + sum_of items.now in SomeIff result (total < 2 ^ 64) total }
+/// The sum of this amount and of what the objects in the places hold, if it is an amount.
+fn sum_from(block: &Block, start: u64, sources: &[Argument]) -> Option<u64>
+    ensures { let total = start + sum_of (commands.items_in (block_of block.now) sources.now) in SomeIff result (total < 2 ^ 64) total }
 {
     let mut total = start;
-    let mut rest = items;
-    while let [item, after @ ..] = rest {
-        total = total.checked_add(amount_of(&item.content))?;
+    let mut rest = sources;
+    while let [source, after @ ..] = rest {
+        if let Some(item) = block.item_in(source) {
+            total = total.checked_add(amount_of(&item.content))?;
+        }
         rest = after;
     }
     Some(total)
 }
 
-/// Whether one of the sources has another currency than the target.
-fn any_other_currency(target: &Item, sources: &[Item]) -> bool
-    ensures { result ≡ list_any (λ i. not (currency_of i.content == currency_of target.now.content)) sources.now }
+/// Whether one of the objects in the places has another currency than the target.
+fn any_other_currency(block: &Block, target: &Item, sources: &[Argument]) -> bool
+    ensures { result ≡ list_any (λ i. not (currency_of i.content == currency_of target.now.content)) (commands.items_in (block_of block.now) sources.now) }
 {
-    for source in sources {
-        if currency_of(&source.content) != currency_of(&target.content) {
-            return true;
+    let mut rest = sources;
+    while let [source, after @ ..] = rest {
+        if let Some(item) = block.item_in(source) {
+            if currency_of(&item.content) != currency_of(&target.content) {
+                return true;
+            }
         }
+        rest = after;
     }
     false
 }
@@ -72,7 +78,7 @@ fn new_coins(
     requires room { made < 2147483648 }
     ensures { IfOk result (λ row. row ≡ coins_after tx.now made currency [] 0 amounts.now) }
 {
-    let mut row = Seq::new(alloc);
+    let mut row = Seq::with_room(alloc, amounts.len() as u64)?;
     let mut ahead = 0;
     let mut rest = amounts;
     while let [amount, after @ ..] = rest {
@@ -197,10 +203,16 @@ fn withheld(tx: &Transaction, argument: &Argument) -> u64
 }
 
 /// What a coin shows with what the sources hold, if this and the withheld budget are an amount.
-fn merged(tx: &Transaction, target: &Argument, item: &Item, sources: &[Item]) -> Option<u64>
-    ensures { let total = amount_of item.now.content + sum_of sources.now in result ≡ (if nat_le amount_limit (amount_of item.now.content + withheld tx.now target.now + sum_of sources.now) then None else Some total) }
+fn merged(
+    block: &Block,
+    tx: &Transaction,
+    target: &Argument,
+    item: &Item,
+    sources: &[Argument],
+) -> Option<u64>
+    ensures { let added = sum_of (commands.items_in (block_of block.now) sources.now) in result ≡ (if nat_le amount_limit (amount_of item.now.content + withheld tx.now target.now + added) then None else Some (amount_of item.now.content + added)) }
 {
-    let total = sum_from(amount_of(&item.content), sources)?;
+    let total = sum_from(block, amount_of(&item.content), sources)?;
     match total.checked_add(withheld(tx, target)) {
         Some(_) => Some(total),
         None => None,
@@ -241,11 +253,10 @@ pub(crate) fn merge(
     let Some(item) = block.item_in(target) else {
         return Err(Halt::Fault(Fault::Cause(4)));
     };
-    let items = block.items_in(alloc, sources)?;
-    if any_other_currency(&item, items.as_slice()) {
+    if any_other_currency(block, &item, sources) {
         return Err(Halt::Fault(Fault::Cause(10)));
     }
-    let Some(total) = merged(tx, target, &item, items.as_slice()) else {
+    let Some(total) = merged(block, tx, target, &item, sources) else {
         return Err(Halt::Fault(Fault::Cause(9)));
     };
     merge_coins(alloc, block, target, &item, total, sources)?;
@@ -264,8 +275,7 @@ pub(crate) fn transfer(
     ensures rows { OnOk result (rows_of block.new ≡ rows_of block.old + 1) }
 {
     let owner = Owner::Address(block.address_in(to));
-    let items = block.items_in(alloc, values)?;
-    block.place_all(owner, items.as_slice())?;
+    block.place_all(owner, values)?;
     block.spend_all(values);
     block.add_nothing(alloc)?;
     Ok(())
@@ -279,7 +289,7 @@ fn vector_row(
 ) -> Result<Seq<Option<Value>>, OutOfMemory>
     ensures { IfOk result (λ row. row ≡ Some (Value.Vector kind items) ∷ []) }
 {
-    let mut row = Seq::new(alloc);
+    let mut row = Seq::with_room(alloc, 1)?;
     row.push(Some(Value::Vector { kind, items }))?;
     Ok(row)
 }

@@ -3,9 +3,9 @@
 ghost use Rattle.std.specs.Prelude.{◌≡◌, ◌<◌, IfOk};
 ghost use Rattle.ptb_run.specs.Drawn.{AreDrawn, drawn_id, new_ids};
 
-use answer_types::Item;
 use chain_types::ObjectId;
 use digest_core::{Digest, created_id};
+use protocol_spec::Item;
 use std::alloc::Global;
 use std::marker::Model;
 use wire_bcs::{OutOfMemory, Seq};

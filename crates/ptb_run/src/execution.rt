@@ -17,10 +17,10 @@ use crate::left::firsts_of;
 use crate::remains::{cost, done_objects, drop_each, failed_objects, list_all};
 use crate::run::outcome;
 use crate::written::written_places;
-use answer_types::Executed;
 use chain_types::{Object, ObjectId, Transaction};
 use digest_core::Digest;
 use effects_core::{Effects, Status};
+use protocol_spec::Executed;
 use std::alloc::Global;
 use wire_bcs::{OutOfMemory, Seq};
 

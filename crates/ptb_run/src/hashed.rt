@@ -7,10 +7,10 @@ ghost use Rattle.protocol_spec.specs.Chain.Keys.{fits};
 ghost use Rattle.protocol_spec.specs.Chain.Shape.{shape_fault};
 
 use crate::execution::execute;
-use answer_types::Executed;
 use chain_types::{HashedObject, Object, Transaction};
 use digest_core::Digest;
 use effects_core::{HashedEffects, Written};
+use protocol_spec::Executed;
 use std::alloc::Global;
 use std::marker::Model;
 use wire_bcs::{OutOfMemory, Seq};
@@ -24,7 +24,7 @@ pub struct HashedExecuted {
 }
 
 impl Model for HashedExecuted {
-    ghost use Rattle.answer_types.specs.declared.pieces.Executed.{Executed as TheExecuted};
+    ghost use Rattle.protocol_spec.specs.declared.pieces.Executed.{Executed as TheExecuted};
 
     ghost Value = { TheExecuted };
 
@@ -65,7 +65,7 @@ fn listed(
     requires { written.now ≡ map written_of objects.now }
     ensures { IfOk result (λ hashed. hashed ≡ objects.now) }
 {
-    let mut hashed = Seq::new(alloc);
+    let mut hashed = Seq::with_room(alloc, objects.len() as u64)?;
     let mut rest = objects;
     let mut left = written;
     while let [object, after @ ..] = rest {

@@ -8,9 +8,9 @@ ghost use Rattle.ptb_run.specs.Left.{firsts_after, moved_now, object_left, with_
 use crate::block::Block;
 use crate::value::Value;
 use crate::written::Moved;
-use answer_types::{Item, Placed};
 use chain_types::{Object, ObjectId, Owner};
 use indexmap::IndexMap;
+use protocol_spec::{Item, Placed};
 use std::alloc::Global;
 use tables::insert_new;
 use wire_bcs::OutOfMemory;

@@ -6,13 +6,13 @@ ghost use Rattle.protocol_spec.specs.Block.Commands.{all_by, changes_value, is_b
 ghost use Rattle.protocol_spec.specs.Chain.Shape.{arguments_of, is_no_native};
 ghost use Rattle.ptb_run.specs.Values.{value_of};
 ghost use Rattle.protocol_spec.specs.Chain.Tests.{kind_eq};
-ghost use Rattle.ptb_run.specs.Needs.{all_after, is_item_right, need_meant, need_now, pairs_after, wanted_of};
+ghost use Rattle.ptb_run.specs.Needs.{all_after, is_item_right, listed, need_meant, need_now, pairs_after, wanted_of};
 
 use crate::value::Value;
-use answer_types::Mode;
 use chain_types::{Argument, Command, Kind};
 use native_calls::contents::kind_of;
 use native_calls::mode;
+use protocol_spec::Mode;
 use std::alloc::Global;
 use wire_bcs::{OutOfMemory, Seq};
 
@@ -121,6 +121,29 @@ pub(crate) fn changes_value(need: Need) -> bool
     }
 }
 
+/// The arguments of a command, each with how it is taken. Up to three take no memory.
+#[derive(Debug, Drop)]
+pub(crate) enum Arguments {
+    One([Wanted; 1]),
+    Two([Wanted; 2]),
+    Three([Wanted; 3]),
+    Many(Seq<Wanted>),
+}
+
+impl Arguments {
+    /// The arguments in order, lent.
+    pub(crate) fn as_slice(&self) -> &[Wanted]
+        ensures { result.now ≡ listed self.now }
+    {
+        match self {
+            Arguments::One(wanted) => wanted,
+            Arguments::Two(wanted) => wanted,
+            Arguments::Three(wanted) => wanted,
+            Arguments::Many(wanted) => wanted.as_slice(),
+        }
+    }
+}
+
 /// Adds arguments that are all taken in one way.
 fn add_all(wanted: &mut Seq<Wanted>, need: Need, args: &[Argument]) -> Result<(), OutOfMemory>
     ensures { OnOk result (wanted.new ≡ all_after wanted.old need args.now) }
@@ -136,8 +159,8 @@ fn add_all(wanted: &mut Seq<Wanted>, need: Need, args: &[Argument]) -> Result<()
     Ok(())
 }
 
-/// The arguments of a native with its modes.
-fn paired(alloc: Global, native: u8, args: &[Argument]) -> Result<Seq<Wanted>, OutOfMemory>
+/// The arguments of a native with its modes, in a list.
+fn pair_each(alloc: Global, native: u8, args: &[Argument]) -> Result<Seq<Wanted>, OutOfMemory>
     requires known { native ≤ 13 }
     requires few { length args.now ≤ 512 }
     ensures { IfOk result (λ wanted. wanted ≡ pairs_after [] native 0 args.now) }
@@ -159,48 +182,154 @@ fn paired(alloc: Global, native: u8, args: &[Argument]) -> Result<Seq<Wanted>, O
     Ok(wanted)
 }
 
-/// One argument.
-fn one(alloc: Global, argument: Argument, need: Need) -> Result<Seq<Wanted>, OutOfMemory>
-    ensures { IfOk result (λ wanted. wanted ≡ record { argument = argument; need = need } ∷ []) }
+/// The arguments of a native with its modes, whatever their number.
+fn pair_many(alloc: Global, native: u8, args: &[Argument]) -> Result<Arguments, OutOfMemory>
+    requires known { native ≤ 13 }
+    requires few { length args.now ≤ 512 }
+    ensures { IfOk result (λ needs. listed needs ≡ pairs_after [] native 0 args.now) }
 {
-    let mut wanted = Seq::new(alloc);
-    wanted.push(Wanted { argument, need })?;
-    Ok(wanted)
+    Ok(Arguments::Many(pair_each(alloc, native, args)?))
+}
+
+/// An argument with the mode of a native.
+fn in_mode(argument: Argument, mode: Mode) -> Wanted
+    ensures { result ≡ record { argument = argument; need = need_now mode } }
+{
+    Wanted {
+        argument,
+        need: need_of(mode),
+    }
+}
+
+/// The arguments of a native with its modes.
+fn paired(alloc: Global, native: u8, args: &[Argument]) -> Result<Arguments, OutOfMemory>
+    requires known { native ≤ 13 }
+    requires few { length args.now ≤ 512 }
+    ensures { IfOk result (λ needs. listed needs ≡ pairs_after [] native 0 args.now) }
+{
+    let Some(first) = mode(native, 0) else {
+        return pair_many(alloc, native, args);
+    };
+    if let [a] = args {
+        return Ok(Arguments::One([in_mode(*a, first)]));
+    }
+    let Some(second) = mode(native, 1) else {
+        return pair_many(alloc, native, args);
+    };
+    if let [a, b] = args {
+        return Ok(Arguments::Two([in_mode(*a, first), in_mode(*b, second)]));
+    }
+    let Some(third) = mode(native, 2) else {
+        return pair_many(alloc, native, args);
+    };
+    if let [a, b, c] = args {
+        return Ok(Arguments::Three([in_mode(*a, first), in_mode(*b, second), in_mode(*c, third)]));
+    }
+    pair_many(alloc, native, args)
+}
+
+/// Arguments that are all taken in one way.
+fn alone(alloc: Global, need: Need, args: &[Argument]) -> Result<Arguments, OutOfMemory>
+    ensures { IfOk result (λ needs. listed needs ≡ all_after [] need args.now) }
+{
+    match args {
+        [a] => Ok(Arguments::One([Wanted { argument: *a, need }])),
+        [a, b] => Ok(Arguments::Two([
+            Wanted { argument: *a, need },
+            Wanted { argument: *b, need },
+        ])),
+        _ => {
+            let mut wanted = Seq::with_room(alloc, args.len() as u64)?;
+            add_all(&mut wanted, need, args)?;
+            Ok(Arguments::Many(wanted))
+        }
+    }
+}
+
+/// An argument, and after it those that are all taken in another way.
+fn headed(
+    alloc: Global,
+    first: Wanted,
+    need: Need,
+    args: &[Argument],
+) -> Result<Arguments, OutOfMemory>
+    ensures { IfOk result (λ needs. listed needs ≡ all_after (first ∷ []) need args.now) }
+{
+    match args {
+        [a] => Ok(Arguments::Two([first, Wanted { argument: *a, need }])),
+        [a, b] => Ok(Arguments::Three([
+            first,
+            Wanted { argument: *a, need },
+            Wanted { argument: *b, need },
+        ])),
+        _ => {
+            let mut wanted = Seq::with_room(alloc, (args.len() as u64).saturating_add(1))?;
+            wanted.push(first)?;
+            add_all(&mut wanted, need, args)?;
+            Ok(Arguments::Many(wanted))
+        }
+    }
+}
+
+/// Arguments that are all taken in one way, and one after them.
+fn tailed(
+    alloc: Global,
+    need: Need,
+    args: &[Argument],
+    last: Wanted,
+) -> Result<Arguments, OutOfMemory>
+    ensures { IfOk result (λ needs. listed needs ≡ all_after [] need args.now ++ last ∷ []) }
+{
+    match args {
+        [a] => Ok(Arguments::Two([Wanted { argument: *a, need }, last])),
+        [a, b] => Ok(Arguments::Three([
+            Wanted { argument: *a, need },
+            Wanted { argument: *b, need },
+            last,
+        ])),
+        _ => {
+            let mut wanted = Seq::with_room(alloc, (args.len() as u64).saturating_add(1))?;
+            add_all(&mut wanted, need, args)?;
+            wanted.push(last)?;
+            Ok(Arguments::Many(wanted))
+        }
+    }
 }
 
 /// The arguments of a command, each with how it is taken.
 #[tactic(auto, using(crate::proofs::Gathered::all_behind, crate::proofs::Gathered::all_before, crate::proofs::Gathered::all_alone, crate::proofs::Gathered::pairs_are))]
-pub(crate) fn needs_of(alloc: Global, command: &Command) -> Result<Seq<Wanted>, OutOfMemory>
+pub(crate) fn needs_of(alloc: Global, command: &Command) -> Result<Arguments, OutOfMemory>
     requires known { IsFalse (is_no_native command.now) }
     requires few { length (arguments_of command.now) ≤ 512 }
-    ensures { IfOk result (λ wanted. map wanted_of wanted ≡ needs_of command.now) }
+    ensures { IfOk result (λ needs. map wanted_of (listed needs) ≡ needs_of command.now) }
 {
+    let changed = Need::ByMut(Kind::Coin);
     match command {
         Command::Call { native, args } => paired(alloc, *native, args.as_slice()),
         Command::Transfer { values, to } => {
-            let mut wanted = Seq::new(alloc);
-            add_all(&mut wanted, Need::ByValue(None), values.as_slice())?;
-            wanted.push(Wanted {
+            let last = Wanted {
                 argument: *to,
                 need: Need::Address,
-            })?;
-            Ok(wanted)
+            };
+            tailed(alloc, Need::ByValue(None), values.as_slice(), last)
         }
         Command::Split { coin, amounts } => {
-            let mut wanted = one(alloc, *coin, Need::ByMut(Kind::Coin))?;
-            add_all(&mut wanted, Need::Number, amounts.as_slice())?;
-            Ok(wanted)
+            let first = Wanted {
+                argument: *coin,
+                need: changed,
+            };
+            headed(alloc, first, Need::Number, amounts.as_slice())
         }
         Command::Merge { target, sources } => {
-            let mut wanted = one(alloc, *target, Need::ByMut(Kind::Coin))?;
+            let first = Wanted {
+                argument: *target,
+                need: changed,
+            };
             let need = Need::ByValue(Some(Kind::Coin));
-            add_all(&mut wanted, need, sources.as_slice())?;
-            Ok(wanted)
+            headed(alloc, first, need, sources.as_slice())
         }
         Command::MakeVec { kind, values } => {
-            let mut wanted = Seq::new(alloc);
-            add_all(&mut wanted, Need::ByValue(Some(*kind)), values.as_slice())?;
-            Ok(wanted)
+            alone(alloc, Need::ByValue(Some(*kind)), values.as_slice())
         }
     }
 }

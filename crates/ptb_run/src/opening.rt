@@ -9,10 +9,10 @@ use crate::block::Block;
 use crate::drawn::DrawnIds;
 use crate::slots::Slots;
 use crate::value::Value;
-use answer_types::Item;
 use chain_types::{Input, Object, Transaction};
 use digest_core::Digest;
 use native_calls::contents::{amount_of, with_amount};
+use protocol_spec::Item;
 use std::alloc::Global;
 use wire_bcs::{OutOfMemory, Seq};
 
@@ -47,7 +47,7 @@ fn input_cells(
 ) -> Result<Seq<Option<Value>>, OutOfMemory>
     ensures { IfOk result (λ cells. cells ≡ cells_after [] inputs.now objects.now) }
 {
-    let mut cells = Seq::new(alloc);
+    let mut cells = Seq::with_room(alloc, inputs.len() as u64)?;
     let mut left = inputs;
     let mut rest = objects;
     while let [input, after @ ..] = left {
@@ -80,12 +80,13 @@ pub(crate) fn first_block(
     ensures opened { IfOk result (λ b. block_of b ≡ first_block tx.now (gas.now ∷ others.now)) }
     ensures rows { IfOk result (λ b. rows_of b ≡ 0) }
 {
+    let results = Vec::with_capacity(alloc, tx.commands.len() as usize)?;
     let inputs = input_cells(alloc, tx.inputs.as_slice(), others)?;
     Ok(Block {
         slots: Slots {
             gas: Some(Value::Object(gas_item(tx, gas))),
             inputs,
-            results: Vec::new(alloc),
+            results,
         },
         placed: Seq::new(alloc),
         made: 0,

@@ -11,11 +11,11 @@ use crate::commands::Site;
 use crate::drawn::DrawnIds;
 use crate::left::{moved_now, object_left};
 use crate::written::Moved;
-use answer_types::Placed;
 use chain_types::{Object, ObjectId, Transaction, object_digest};
 use effects_core::Written;
 use indexmap::IndexMap;
 use native_calls::contents::{amount_of, with_amount};
+use protocol_spec::Placed;
 use std::alloc::Global;
 use wire_bcs::{OutOfMemory, Seq};
 
@@ -29,7 +29,7 @@ fn keep_each(
 ) -> Result<Seq<Object>, OutOfMemory>
     ensures { IfOk result (λ objects. objects ≡ kept_after version left.now.entries (block_of block.now) [] moved.now) }
 {
-    let mut objects = Seq::new(alloc);
+    let mut objects = Seq::with_room(alloc, moved.len() as u64)?;
     let mut rest = moved;
     while let [one, after @ ..] = rest {
         if let Some(object) = moved_now(version, left, block, one) {
@@ -99,7 +99,7 @@ fn same_object(version: u64, object: &Object) -> Object
 fn renew_each(alloc: Global, version: u64, moved: &[Moved]) -> Result<Seq<Object>, OutOfMemory>
     ensures { IfOk result (λ objects. objects ≡ same_after version [] moved.now) }
 {
-    let mut objects = Seq::new(alloc);
+    let mut objects = Seq::with_room(alloc, moved.len() as u64)?;
     let mut rest = moved;
     while let [one, after @ ..] = rest {
         objects.push(same_object(version, &one.object))?;
@@ -123,7 +123,7 @@ fn written_of(object: &Object) -> Written
 fn list_each(alloc: Global, objects: &[Object]) -> Result<Seq<Written>, OutOfMemory>
     ensures { IfOk result (λ written. written ≡ listed_after [] objects.now) }
 {
-    let mut written = Seq::new(alloc);
+    let mut written = Seq::with_room(alloc, objects.len() as u64)?;
     let mut rest = objects;
     while let [object, after @ ..] = rest {
         written.push(written_of(object))?;

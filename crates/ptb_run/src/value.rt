@@ -4,8 +4,8 @@ ghost use Rattle.std.specs.Prelude.{◌≡◌};
 ghost use Rattle.protocol_spec.specs.Block.Commands.{place_of};
 ghost use Rattle.ptb_run.specs.Values.{spot_at, spot_of};
 
-use answer_types::Item;
 use chain_types::{Argument, Kind};
+use protocol_spec::Item;
 use wire_bcs::Seq;
 
 /// A value of a block.

@@ -85,7 +85,7 @@ pub(crate) fn written_places(
     requires { length tx.now.inputs ≤ 256 }
     ensures { IfOk result (λ moved. map moved_of moved ≡ written_places tx.now (gas.now ∷ others.now)) }
 {
-    let mut moved = Seq::new(alloc);
+    let mut moved = Seq::with_room(alloc, 1 + tx.inputs.len())?;
     moved.push(Moved {
         spot: Spot::Gas,
         object: *gas,

@@ -25,7 +25,7 @@ use Rattle.world_spec.specs.Run.{world_after}
 use Rattle.world_spec.specs.Assumptions.{FewFaulty, IdsApart, IsHonestRun, TransactionsApart, all_delivered, all_formed, all_of, all_transactions, asked, created}
 use Rattle.safety_law.specs.Owners.{is_raw_hold}
 use Rattle.safety_law.proofs.Sound.{get-has}
-use Rattle.text_law.proofs.Honest.{read-unforged}
+use Rattle.run_law.proofs.Honest.{read-unforged}
 
 -- ---- values that differ
 

@@ -7,7 +7,7 @@ use Rattle.chain_types.specs.declared.objects.Owner.TheVariants as owner
 use Rattle.chain_types.specs.declared.transactions.Input.TheVariants as inputs
 use Rattle.effects_core.specs.declared.effects.Status.{Status}
 use Rattle.effects_core.specs.declared.effects.Status.TheVariants as status
-use Rattle.answer_types.specs.declared.pieces.Executed.{Executed}
+use Rattle.protocol_spec.specs.declared.pieces.Executed.{Executed}
 use Rattle.protocol_spec.specs.Block.Execution.{execution}
 use Rattle.rows_law.specs.SomeTransaction.{some_id, transaction_of}
 use Rattle.rows_law.specs.BlocksHaveLimits.{pairs, zero_number}

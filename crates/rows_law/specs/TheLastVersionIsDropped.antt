@@ -8,7 +8,7 @@ use Rattle.chain_types.specs.declared.transactions.Input.TheVariants as inputs
 use Rattle.chain_types.specs.declared.transactions.Command.TheVariants as command
 use Rattle.chain_types.specs.declared.transactions.Argument.TheVariants as argument
 use Rattle.chain_types.specs.Digests.{transaction_digest}
-use Rattle.answer_types.specs.declared.answers.Held.{Held}
+use Rattle.protocol_spec.specs.declared.answers.Held.{Held}
 use Rattle.protocol_spec.specs.Member.Admission.{Admission, nothing_admitted, entered, digest_of_admitted}
 use Rattle.rows_law.specs.SomeTransaction.{some_id, transaction_of}
 

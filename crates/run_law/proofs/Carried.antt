@@ -47,8 +47,8 @@ use Rattle.world_spec.specs.Names.{made_named, cert_named, drawn_by}
 use Rattle.world_spec.specs.Making.{TxLine, digest_or_zero, drawn_input, drawn_list, drawn_word, held_digest, id_of, input_over, made_as, made_over, ref_over, reference_over, spoiled_if, transaction_over, with_made}
 use Rattle.world_spec.specs.Step.{acked_over, appended_entry, end_by, end_in, entries_left, executed_digest, false_ack_over, formed, formed_as, fvoted_by, happens_over, has_ended, honest_end, last_said, no_origins, on_seat, open_entries, ordered, ordered_end, origin_word, origins_by, origins_or, risen_if, says, sealed_end, sent_over, vote_by, vote_in, voted_over, votes_collected}
 use Rattle.world_spec.specs.Report.{Lines, ack_lines, ack_reached, ack_said, acks_collected, and_lines, call_lines, cert_lines, close_reached, end_reached, entries_lines, entry_reached, final_lines, fvote_lines_by, hold_reached, hold_said, honest_end_said, lines_over, none_taken, order_end_by, order_said, origin_name, origin_names, run_reached, see_halted, see_up, send_said, show_up, turn_reached, vote_lines, vote_reached, vote_said}
-use Rattle.scene_spec.specs.Worlds.{is_restart}
-use Rattle.scene_spec.proofs.LineWorlds.{ack_same, close_same, end_same, hold_same, run_same, see_same, shown_same, turn_same, vote_same}
+use Rattle.world_spec.specs.SceneWorlds.{is_restart}
+use Rattle.world_spec.proofs.LineWorlds.{ack_same, close_same, end_same, hold_same, run_same, see_same, shown_same, turn_same, vote_same}
 
 abbrev pub is_start : Deed → Bool
 is_start (keeps x) = false

@@ -10,10 +10,10 @@ use Rattle.world_spec.specs.World.{World, Deed, keeps, halts, arms, starts, acts
 use Rattle.world_spec.specs.Step.{happens, happens_over}
 use Rattle.world_spec.specs.Report.{lines_of, lines_over}
 use Rattle.safety_law.proofs.Apart.{state-push}
-use Rattle.scene_spec.specs.Terms.{terms_of}
-use Rattle.scene_spec.specs.Seats.{Seated}
-use Rattle.scene_spec.specs.Posts.{Post, by_posts, post_acts, seat_at, seat_with, state_or}
-use Rattle.scene_spec.specs.Worlds.{is_restart, post_of}
+use Rattle.world_spec.specs.Terms.{terms_of}
+use Rattle.world_spec.specs.Seats.{Seated}
+use Rattle.world_spec.specs.Posts.{Post, by_posts, post_acts, seat_at, seat_with, state_or}
+use Rattle.world_spec.specs.SceneWorlds.{is_restart, post_of}
 use Rattle.run_law.proofs.Carried.{IsCarried, is_start, lines-look, step-looks}
 
 module _ (s : Setting) where

@@ -16,8 +16,8 @@ use Rattle.world_spec.specs.Names.{cert_named, made_named}
 use Rattle.world_spec.specs.Making.{made_over}
 use Rattle.world_spec.specs.Step.{acked, appended_entry, end_in, end_ordered, entries_left, false_ack, formed, fvoted, happens, has_ended, honest_end, last_said, on_seat, ordered, ordered_end, risen_if, says, sealed_end, sent, voted_on, happens_over}
 use Rattle.world_spec.specs.Run.{run}
-use Rattle.scene_spec.specs.Posts.{Post, arming}
-use Rattle.scene_spec.specs.Worlds.{AreKeepable, IsKeepable}
+use Rattle.world_spec.specs.Posts.{Post, arming}
+use Rattle.world_spec.specs.SceneWorlds.{AreKeepable, IsKeepable}
 use Rattle.run_law.proofs.ScenePosts.{called-open, changed-open}
 use Rattle.run_law.proofs.SceneSees.{sees-open}
 use Rattle.run_law.proofs.SceneSteps.{cert-open, fvote-open, sent-open, voted-open}

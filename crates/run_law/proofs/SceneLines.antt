@@ -34,13 +34,13 @@ use Rattle.world_spec.specs.Run.{records_of}
 use Rattle.world_spec.specs.Names.{cert_named, made_named}
 use Rattle.world_spec.specs.Step.{end_in, entries_left, fvote_origins, last_said, open_entries}
 use Rattle.world_spec.specs.Report.{Lines, ack_answered, ack_lines, ack_reached, ack_said, acks_collected, and_lines, call_lines, close_answered, close_reached, end_answered, end_reached, entries_lines, entry_reached, final_lines, honest_end_said, none_taken, order_end_said, order_said, see_halted, see_up, turn_answered, turn_reached, cert_collected, cert_lines, fvote_lines, hold_reached, hold_said, lines_of, origin_name, origin_names, record_count, run_reached, send_said, show_up, vote_lines, vote_reached, vote_said, lines_over}
-use Rattle.scene_spec.proofs.LineWorlds.{ack_same, close_same, end_same, hold_same, run_same, see_same, shown_same, turn_same, vote_same}
-use Rattle.scene_spec.specs.Terms.{rules_for, terms_of}
-use Rattle.scene_spec.specs.Posts.{Post, reached_in, seat_at}
-use Rattle.scene_spec.specs.Scene.{Scene, bare_setting, bare_world, rules_in}
-use Rattle.scene_spec.specs.Steps as scenes
-use Rattle.scene_spec.specs.Steps.{ack_lines_in, ack_text_in, call_lines_in, called_scene, entries_lines_in, hold_text_in, lines_in, next_on, see_halted_in, see_lines_in, send_text_in, show_in, standing_at, state_at, vote_lines_in, vote_text_in}
-use Rattle.scene_spec.specs.Worlds.{Shows, is_restart, journal_in, post_of, posts_from, scene_of, spelled}
+use Rattle.world_spec.proofs.LineWorlds.{ack_same, close_same, end_same, hold_same, run_same, see_same, shown_same, turn_same, vote_same}
+use Rattle.world_spec.specs.Terms.{rules_for, terms_of}
+use Rattle.world_spec.specs.Posts.{Post, reached_in, seat_at}
+use Rattle.world_spec.specs.Scene.{Scene, bare_setting, bare_world, rules_in}
+use Rattle.world_spec.specs.SceneSteps as scenes
+use Rattle.world_spec.specs.SceneSteps.{ack_lines_in, ack_text_in, call_lines_in, called_scene, entries_lines_in, hold_text_in, lines_in, next_on, see_halted_in, see_lines_in, send_text_in, show_in, standing_at, state_at, vote_lines_in, vote_text_in}
+use Rattle.world_spec.specs.SceneWorlds.{Shows, is_restart, journal_in, post_of, posts_from, scene_of, spelled}
 use Rattle.run_law.proofs.ScenePosts.{called-same, place, posts-get, reached-same}
 use Rattle.run_law.proofs.SceneSees.{IsUp, IsDown, stands, up-behind, up-member, up-next, up-next-on, up-state}
 use Rattle.run_law.proofs.SceneSteps.{bare-honest, origins-same, collected-same}

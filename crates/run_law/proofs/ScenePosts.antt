@@ -11,12 +11,12 @@ use Rattle.world_spec.specs.World.{Said, World, Reached, finds_down, stops, answ
 use Rattle.world_spec.specs.Step.{on_seat}
 use Rattle.safety_law.proofs.Apart.{state-push}
 use Rattle.safety_law.proofs.InWorld.{answered-due}
-use Rattle.scene_spec.specs.Terms.{terms_of}
-use Rattle.scene_spec.specs.Seats.{Seated}
-use Rattle.scene_spec.specs.Posts.{Post, changed_at, post_behind, posts_behind, posts_with, reached_in, reached_post, reached_standing, seat_at, seat_behind, stated_in}
-use Rattle.scene_spec.specs.Scene.{Scene}
-use Rattle.scene_spec.specs.Steps.{called_scene}
-use Rattle.scene_spec.specs.Worlds.{post_of, posts_from, scene_of}
+use Rattle.world_spec.specs.Terms.{terms_of}
+use Rattle.world_spec.specs.Seats.{Seated}
+use Rattle.world_spec.specs.Posts.{Post, changed_at, post_behind, posts_behind, posts_with, reached_in, reached_post, reached_standing, seat_at, seat_behind, stated_in}
+use Rattle.world_spec.specs.Scene.{Scene}
+use Rattle.world_spec.specs.SceneSteps.{called_scene}
+use Rattle.world_spec.specs.SceneWorlds.{post_of, posts_from, scene_of}
 
 -- ---- the member at a number
 

@@ -20,11 +20,11 @@ use Rattle.world_spec.specs.Names.{cert_named, made_named}
 use Rattle.world_spec.specs.Making.{made_over}
 use Rattle.world_spec.specs.Step.{acked, appended_entry, end_in, false_ack, formed, formed_as, fvoted, happens, has_ended, honest_end, last_said, on_seat, ordered, ordered_end, risen_if, says, sealed_end, sent, voted_on, votes_collected, happens_over}
 use Rattle.world_spec.specs.Run.{records_of}
-use Rattle.scene_spec.specs.Posts.{list_of, reached_in, record_left, with_all}
-use Rattle.scene_spec.specs.Scene.{Scene, rules_in}
-use Rattle.scene_spec.specs.Steps as scenes
-use Rattle.scene_spec.specs.Steps.{AddsLine, MayAddLine, Work, idle, asks, hands, ack_work, asked, held_call, left_if, next_on, records_left, sees_left, signed_call, work_of}
-use Rattle.scene_spec.specs.Worlds.{HasRoom, IsFront, Shows, Tells, TellsFront, journal_in, posts_from, scene_of, spelled}
+use Rattle.world_spec.specs.Posts.{list_of, reached_in, record_left, with_all}
+use Rattle.world_spec.specs.Scene.{Scene, rules_in}
+use Rattle.world_spec.specs.SceneSteps as scenes
+use Rattle.world_spec.specs.SceneSteps.{AddsLine, MayAddLine, Work, idle, asks, hands, ack_work, asked, held_call, left_if, next_on, records_left, sees_left, signed_call, work_of}
+use Rattle.world_spec.specs.SceneWorlds.{HasRoom, IsFront, Shows, Tells, TellsFront, journal_in, posts_from, scene_of, spelled}
 use Rattle.run_law.proofs.ScenePosts.{reached-same}
 use Rattle.run_law.proofs.SceneSees.{IsUp, IsDown, count-same, down-next, down-step, next-same, stands, up-next, up-next-on}
 use Rattle.run_law.proofs.SceneSteps.{bare-honest}

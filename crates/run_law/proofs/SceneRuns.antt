@@ -18,17 +18,17 @@ use Rattle.world_spec.specs.Names.{cert_in, made_named}
 use Rattle.world_spec.specs.Step.{entries_left, happens}
 use Rattle.world_spec.specs.Run.{run, world_after}
 use Rattle.world_spec.specs.Assumptions.{ack_call, all_of, calls_of, see_calls, send_call, vote_call}
-use Rattle.text_law.specs.Sayable.{IsStatement}
-use Rattle.text_law.proofs.SaidWhole.{text_said}
+use Rattle.run_law.specs.Sayable.{IsStatement}
+use Rattle.run_law.proofs.SaidWhole.{text_said}
 use Rattle.safety_law.proofs.Steps.{last-has}
-use Rattle.text_law.specs.HonestTexts.{keyed_setting}
-use Rattle.text_law.proofs.Texts.{most_words}
-use Rattle.text_law.proofs.TextLines.{text-short}
-use Rattle.text_law.proofs.Fits.{AreThings, IsFitMade}
-use Rattle.text_law.proofs.Honest.{all-back, setting-seals, setting-things, fit-events}
-use Rattle.text_law.proofs.Runs.{AreSeals, IsFit, IsFitEvent, world-fit}
-use Rattle.text_law.proofs.Words.{bytes_by_index}
-use Rattle.scene_spec.specs.Worlds.{AreKeepable, ReadsFit, Restarts}
+use Rattle.run_law.specs.HonestTexts.{keyed_setting}
+use Rattle.run_law.proofs.Texts.{most_words}
+use Rattle.run_law.proofs.TextLines.{text-short}
+use Rattle.run_law.proofs.Fits.{AreThings, IsFitMade}
+use Rattle.run_law.proofs.Honest.{all-back, setting-seals, setting-things, fit-events}
+use Rattle.run_law.proofs.ReadRuns.{AreSeals, IsFit, IsFitEvent, world-fit}
+use Rattle.run_law.proofs.Words.{bytes_by_index}
+use Rattle.world_spec.specs.SceneWorlds.{AreKeepable, ReadsFit, Restarts}
 use Rattle.run_law.proofs.SceneSees.{see-each}
 use Rattle.run_law.proofs.SceneStarts.{entry-spelled, hold-bytes, hold-spelled, run-starts, vote-bytes, vote-spelled}
 

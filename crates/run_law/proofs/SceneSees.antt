@@ -13,12 +13,12 @@ use Rattle.world_spec.specs.World as worlds
 use Rattle.world_spec.specs.World.{World, Reached, finds_down, answers, appended, behind, called_if, called_in, called_seat, entries_at, member_at, member_in, next_call, next_call_of, numbered_call, reached, reached_at, reached_seat, reached_up, sees_on, state_of, called_over, reached_over, is_seat_up}
 use Rattle.world_spec.specs.Step.{entries_left}
 use Rattle.world_spec.specs.Assumptions.{call_list, see_calls}
-use Rattle.scene_spec.specs.Terms.{terms_of}
-use Rattle.scene_spec.specs.Posts.{Post, seat_at}
-use Rattle.scene_spec.specs.Scene.{Scene, bare_world}
-use Rattle.scene_spec.specs.Steps as scenes
-use Rattle.scene_spec.specs.Steps.{next_on, seat_state, sees_to, standing_at, state_at}
-use Rattle.scene_spec.specs.Worlds.{post_of, scene_of}
+use Rattle.world_spec.specs.Terms.{terms_of}
+use Rattle.world_spec.specs.Posts.{Post, seat_at}
+use Rattle.world_spec.specs.Scene.{Scene, bare_world}
+use Rattle.world_spec.specs.SceneSteps as scenes
+use Rattle.world_spec.specs.SceneSteps.{next_on, seat_state, sees_to, standing_at, state_at}
+use Rattle.world_spec.specs.SceneWorlds.{post_of, scene_of}
 use Rattle.run_law.proofs.ScenePosts.{called-open, called-same, place, posts-get}
 
 -- a member is there and up

@@ -27,16 +27,16 @@ use Rattle.journal_core.specs.declared.records.RanItem.{RanItem}
 use Rattle.journal_core.specs.declared.records.Record.{Record}
 use Rattle.journal_core.specs.declared.records.Record.TheVariants as record_as
 use Rattle.journal_core.specs.Records as journals
-use Rattle.answer_types.specs.declared.answers.Ran.{Ran}
-use Rattle.answer_types.specs.declared.refusals.VoteRefusal.{VoteRefusal}
-use Rattle.answer_types.specs.declared.refusals.HoldRefusal.{HoldRefusal}
-use Rattle.answer_types.specs.declared.refusals.SeeRefusal.{SeeRefusal}
-use Rattle.answer_types.specs.declared.refusals.RunRefusal.{RunRefusal}
-use Rattle.answer_types.specs.declared.refusals.RunRefusal.TheVariants as no_run
-use Rattle.answer_types.specs.declared.refusals.CloseRefusal.{CloseRefusal}
-use Rattle.answer_types.specs.declared.refusals.TurnRefusal.{TurnRefusal}
-use Rattle.answer_types.specs.declared.refusals.StartRefusal.{StartRefusal}
-use Rattle.answer_types.specs.declared.refusals.StartRefusal.TheVariants as no_start
+use Rattle.protocol_spec.specs.declared.answers.Ran.{Ran}
+use Rattle.protocol_spec.specs.declared.refusals.VoteRefusal.{VoteRefusal}
+use Rattle.protocol_spec.specs.declared.refusals.HoldRefusal.{HoldRefusal}
+use Rattle.protocol_spec.specs.declared.refusals.SeeRefusal.{SeeRefusal}
+use Rattle.protocol_spec.specs.declared.refusals.RunRefusal.{RunRefusal}
+use Rattle.protocol_spec.specs.declared.refusals.RunRefusal.TheVariants as no_run
+use Rattle.protocol_spec.specs.declared.refusals.CloseRefusal.{CloseRefusal}
+use Rattle.protocol_spec.specs.declared.refusals.TurnRefusal.{TurnRefusal}
+use Rattle.protocol_spec.specs.declared.refusals.StartRefusal.{StartRefusal}
+use Rattle.protocol_spec.specs.declared.refusals.StartRefusal.TheVariants as no_start
 use Rattle.protocol_spec.specs.Chain.Words.{Along, Each, and_then, first_some, unless_refused, where_true}
 use Rattle.protocol_spec.specs.Chain.Certificates.{Rules, read_as, read_certificate, read_entry, read_signed}
 use Rattle.protocol_spec.proofs.ListLemmas.{along-push, each_back, each_front, each_at, each_join}
@@ -54,16 +54,16 @@ use Rattle.world_spec.specs.Names.{cert_named, made_named}
 use Rattle.world_spec.specs.Step.{entries_left, happens}
 use Rattle.world_spec.specs.Run.{run, world_after}
 use Rattle.world_spec.specs.Assumptions.{ack_call, all_of, calls_of, see_calls, send_call, vote_call}
-use Rattle.scene_spec.specs.Starts.{read_record, started, started_from, taken_at}
+use Rattle.world_spec.specs.Starts.{read_record, started, started_from, taken_at}
 use Rattle.protocol_spec.specs.Member.Due.{IsDueBehind}
 use Rattle.safety_law.proofs.Apart.{state-push}
 use Rattle.safety_law.proofs.InWorld.{in_world_given, kept-line, new-seats}
 use Rattle.safety_law.proofs.Allowed.{due-allowed}
-use Rattle.text_law.proofs.Members.{AreOrigins, IsDigest, IsFitMember, IsFitStatement, fit-none, fit-step, stated-fit, tagged-digest}
-use Rattle.text_law.proofs.Fits.{origins-fit}
-use Rattle.scene_spec.specs.Scene.{Scene, bare_world}
-use Rattle.scene_spec.specs.Steps.{idle, asks, ack_work, asked, held_call, signed_call, work_of}
-use Rattle.scene_spec.specs.Worlds.{AreKeepable, IsKeepable, ReadsFit, Restarts, Shows, WorkReadsFit, scene_of, spelled}
+use Rattle.run_law.proofs.Members.{AreOrigins, IsDigest, IsFitMember, IsFitStatement, fit-none, fit-step, stated-fit, tagged-digest}
+use Rattle.run_law.proofs.Fits.{origins-fit}
+use Rattle.world_spec.specs.Scene.{Scene, bare_world}
+use Rattle.world_spec.specs.SceneSteps.{idle, asks, ack_work, asked, held_call, signed_call, work_of}
+use Rattle.world_spec.specs.SceneWorlds.{AreKeepable, IsKeepable, ReadsFit, Restarts, Shows, WorkReadsFit, scene_of, spelled}
 use Rattle.run_law.proofs.SceneCounted.{few-rounds, holds-few}
 use Rattle.run_law.proofs.SceneRecords.{spelled-push}
 use Rattle.run_law.proofs.SceneSees.{see-each}

@@ -28,17 +28,17 @@ use Rattle.world_spec.specs.Names.{made_named, cert_named}
 use Rattle.world_spec.specs.Making.{TxLine, digest_or_zero, held_digest, made_by_line, spoiled_if, made_over}
 use Rattle.world_spec.specs.Step.{acked, appended_entry, end_in, end_ordered, entries_left, executed_digest, false_ack, has_ended, honest_end, last_said, ordered, ordered_end, risen_if, sealed_end, first_origins, formed, formed_as, fvote_origins, fvoted, happens, honest_vote, no_origins, origin_word, origins_or, says, sent, vote_statement, voted_on, votes_collected, happens_over}
 use Rattle.world_spec.specs.Run.{records_of}
-use Rattle.scene_spec.specs.Known.{names_of, with_line}
-use Rattle.scene_spec.specs.MadeLines.{line_made}
-use Rattle.scene_spec.proofs.MadeWorlds.{line_same}
-use Rattle.scene_spec.specs.Terms.{rules_for, terms_of}
-use Rattle.answer_types.specs.declared.refusals.StartRefusal.{StartRefusal}
-use Rattle.scene_spec.specs.Starts.{started}
-use Rattle.scene_spec.specs.Seats.{Seated}
-use Rattle.scene_spec.specs.Posts.{Post, arming, new_posts, seat_at, started_at, starting}
-use Rattle.scene_spec.specs.Scene.{Scene, bare_seat, bare_setting, bare_world, new_scene, rules_in}
-use Rattle.scene_spec.specs.Steps.{Work, asks, hands, acked_in, asked, called_scene, false_ack_in, held_by, held_call, held_in, says_in, sees_to, signed_call, state_at, steps_to, with_order, with_tx, work_of, worked}
-use Rattle.scene_spec.specs.Worlds.{Restarts, Shows, is_restart, journal_in, post_of, posts_from, scene_of, spelled}
+use Rattle.world_spec.specs.Known.{names_of, with_line}
+use Rattle.world_spec.specs.MadeLines.{line_made}
+use Rattle.world_spec.proofs.MadeWorlds.{line_same}
+use Rattle.world_spec.specs.Terms.{rules_for, terms_of}
+use Rattle.protocol_spec.specs.declared.refusals.StartRefusal.{StartRefusal}
+use Rattle.world_spec.specs.Starts.{started}
+use Rattle.world_spec.specs.Seats.{Seated}
+use Rattle.world_spec.specs.Posts.{Post, arming, new_posts, seat_at, started_at, starting}
+use Rattle.world_spec.specs.Scene.{Scene, bare_seat, bare_setting, bare_world, new_scene, rules_in}
+use Rattle.world_spec.specs.SceneSteps.{Work, asks, hands, acked_in, asked, called_scene, false_ack_in, held_by, held_call, held_in, says_in, sees_to, signed_call, state_at, steps_to, with_order, with_tx, work_of, worked}
+use Rattle.world_spec.specs.SceneWorlds.{Restarts, Shows, is_restart, journal_in, post_of, posts_from, scene_of, spelled}
 use Rattle.run_law.proofs.ScenePosts.{place-first, called-same, called-open, changed-same}
 use Rattle.run_law.proofs.SceneSees.{count-same, sees-same}
 

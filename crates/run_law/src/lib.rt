@@ -1,10 +1,21 @@
 //! Laws over runs and records: reports, restarts and workers, encodings, and the view that code has of a world.
+//!
+//! Laws over the text of a schedule, and over the run of every schedule that a text says.
 #![tactic(auto)]
 
+mod honesty;
+mod reading;
 mod runs;
 mod scenes;
 mod spellings;
 
+pub use honesty::{
+    nothing_read_is_forged, read_runs_are_spellable, read_transactions_are_spellable,
+};
+pub use reading::{
+    canonical_text_reads_back, generated_text_is_a_schedule, what_is_read_can_be_said,
+    what_is_read_reads_back,
+};
 pub use runs::{
     each_event_is_reported, no_record_no_change, older_runs_are_read, restart_keeps_states,
     workers_change_nothing,

@@ -24,12 +24,12 @@ ghost use Rattle.world_spec.specs.Step.{happens, happens_over};
 ghost use Rattle.world_spec.specs.Report.{lines_of, lines_over};
 ghost use Rattle.world_spec.specs.Run.{world_after};
 ghost use Rattle.world_spec.specs.Assumptions.{all_of, calls_of};
-ghost use Rattle.text_law.specs.HonestTexts.{keyed_setting};
-ghost use Rattle.scene_spec.specs.Starts.{started};
-ghost use Rattle.scene_spec.specs.Posts.{by_posts, started_at};
-ghost use Rattle.scene_spec.specs.Scene.{Scene, new_scene, rules_in};
-ghost use Rattle.scene_spec.specs.Steps.{AddsLine, MayAddLine, lines_in, records_left, steps_to, work_of};
-ghost use Rattle.scene_spec.specs.Worlds.{AreKeepable, HasRoom, ReadsFit, Restarts, Shows, Tells, TellsFront, WorkReadsFit, is_restart, journal_in, post_of};
+ghost use Rattle.run_law.specs.HonestTexts.{keyed_setting};
+ghost use Rattle.world_spec.specs.Starts.{started};
+ghost use Rattle.world_spec.specs.Posts.{by_posts, started_at};
+ghost use Rattle.world_spec.specs.Scene.{Scene, new_scene, rules_in};
+ghost use Rattle.world_spec.specs.SceneSteps.{AddsLine, MayAddLine, lines_in, records_left, steps_to, work_of};
+ghost use Rattle.world_spec.specs.SceneWorlds.{AreKeepable, HasRoom, ReadsFit, Restarts, Shows, Tells, TellsFront, WorkReadsFit, is_restart, journal_in, post_of};
 
 /// The scene of the set-up shows the definition's first world, and each step of a scene shows the world after
 /// the line, with the definition's lines.

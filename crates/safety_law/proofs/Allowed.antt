@@ -14,14 +14,14 @@ use Rattle.chain_messages.specs.declared.messages.Certificate.{Certificate}
 use Rattle.journal_core.specs.declared.records.RanItem.{RanItem}
 use Rattle.journal_core.specs.declared.records.Record.{Record}
 use Rattle.journal_core.specs.declared.records.Record.TheVariants as record_as
-use Rattle.answer_types.specs.declared.answers.Ran.{Ran}
-use Rattle.answer_types.specs.declared.refusals.VoteRefusal.{VoteRefusal}
-use Rattle.answer_types.specs.declared.refusals.VoteRefusal.TheVariants as no_vote
-use Rattle.answer_types.specs.declared.refusals.SeeRefusal.{SeeRefusal}
-use Rattle.answer_types.specs.declared.refusals.SeeRefusal.TheVariants as no_see
-use Rattle.answer_types.specs.declared.refusals.RunRefusal.{RunRefusal}
-use Rattle.answer_types.specs.declared.refusals.CloseRefusal.{CloseRefusal}
-use Rattle.answer_types.specs.declared.refusals.TurnRefusal.{TurnRefusal}
+use Rattle.protocol_spec.specs.declared.answers.Ran.{Ran}
+use Rattle.protocol_spec.specs.declared.refusals.VoteRefusal.{VoteRefusal}
+use Rattle.protocol_spec.specs.declared.refusals.VoteRefusal.TheVariants as no_vote
+use Rattle.protocol_spec.specs.declared.refusals.SeeRefusal.{SeeRefusal}
+use Rattle.protocol_spec.specs.declared.refusals.SeeRefusal.TheVariants as no_see
+use Rattle.protocol_spec.specs.declared.refusals.RunRefusal.{RunRefusal}
+use Rattle.protocol_spec.specs.declared.refusals.CloseRefusal.{CloseRefusal}
+use Rattle.protocol_spec.specs.declared.refusals.TurnRefusal.{TurnRefusal}
 use Rattle.schedule_text.specs.declared.words.Event.{Event}
 use Rattle.protocol_spec.proofs.Equality.{digest_self}
 use Rattle.protocol_spec.proofs.Truth.{some_same}

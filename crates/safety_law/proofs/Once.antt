@@ -1,7 +1,7 @@
 -- Over a whole journal the votes of one epoch are apart.
 use Rattle.std.proofs.Common.{inl, inr, refl, sym, subst, ap, ◌∙◌}
-use Rattle.std.proofs.lemmas.Bool.{eqb-true, eq-eqb}
-use Rattle.std.specs.Prelude.{◌≡◌, ◌⊎◌, ◌≤◌, ◌+◌, ℕ, Bool, true, false, ◌||◌, List, [], ◌∷◌, ◌++◌, find, slice_get, Option, Some, None, bytes_eq}
+use Rattle.std.proofs.lemmas.Bool.{eqb-true}
+use Rattle.std.specs.Prelude.{◌≡◌, ◌⊎◌, ◌≤◌, ◌+◌, ℕ, Bool, true, false, ◌||◌, List, [], ◌∷◌, ◌++◌, find, slice_get, Option, Some, None}
 use native.Mathlib.Omega.{arith}
 use Rattle.digest_core.specs.declared.Digest.{Digest}
 use Rattle.chain_types.specs.Equal.{digest_eq, key_eq}
@@ -41,13 +41,6 @@ has-push (z ∷ zs) x y (inl e) = inl (inl e)
 has-push (z ∷ zs) x y (inr h) = either-way z x y zs (has-push zs x y h)
 
 -- ---- tests of equality
-
-bytes-same : (xs : List ℕ) → bytes_eq xs xs ≡ true
-bytes-same [] = refl
-bytes-same (x ∷ xs) = go x (bytes-same xs)
-  where
-    go : (x : ℕ) → bytes_eq xs xs ≡ true → bytes_eq (x ∷ xs) (x ∷ xs) ≡ true
-    go x e = rw (eq-eqb x x refl, e) refl
 
 pub differ : (a b : Digest) → (a ≡ b → ⊥) → digest_eq a b ≡ false
 differ a b other = go (digest_eq a b) refl

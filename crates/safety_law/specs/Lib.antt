@@ -2,3 +2,16 @@ pub mod Quorums
 pub mod Members
 pub mod Owners
 pub mod Replayed
+pub mod Agreed
+pub mod Explained
+pub mod Alike
+pub mod Same
+pub mod Steps
+pub mod Orderly
+pub mod Thread
+pub mod Checkpointed
+pub mod Past
+pub mod Opened
+pub mod AgreedEpochs
+pub mod Chains
+pub mod Sums

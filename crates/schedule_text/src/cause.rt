@@ -38,7 +38,7 @@ impl Cause {
     ghost use Rattle.schedule_text.specs.Cause.{number_of_cause};
 
     /// The number of the cause, from 1 to 13.
-    pub fn number(self) -> u8
+    pub(crate) fn number(self) -> u8
         ensures { result ≡ number_of_cause self }
     {
         match self {

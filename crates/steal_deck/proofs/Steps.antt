@@ -130,10 +130,6 @@ takes port v xs items views pos few h at =
       },
     )
 
-nil_of : (xs : List ℕ) → length xs ≤ 0 → xs ≡ []
-nil_of [] h = refl
-nil_of (x ∷ xs) h = absurd (omega arith)
-
 pub finds : (port : ℕ) (v : Track) (items : List ℕ) (views : List Track) → length items ≤ 0 → InOrder items views → get_elem? views port ≡ some v → IsAllTaken v
 finds port v items views none h at alone owns p lt =
     let mine = h.each port v at in

@@ -4,15 +4,15 @@ use Rattle.digest_core.specs.declared.Digest.{Digest}
 use Rattle.quorum_core.specs.declared.signer.Signer.{Signer}
 use Rattle.chain_types.specs.declared.objects.Object.{Object}
 use Rattle.chain_types.specs.declared.objects.ObjectId.{ObjectId}
-use Rattle.answer_types.specs.declared.refusals.StartRefusal.{StartRefusal}
-use Rattle.answer_types.specs.declared.refusals.StartRefusal.TheVariants as no_start
+use Rattle.protocol_spec.specs.declared.refusals.StartRefusal.{StartRefusal}
+use Rattle.protocol_spec.specs.declared.refusals.StartRefusal.TheVariants as no_start
 use Rattle.chain_types.specs.Equal.{id_eq}
 use Rattle.protocol_spec.specs.Chain.Certificates.{Rules}
 use Rattle.protocol_spec.specs.Chain.Words.{repeats}
 use Rattle.protocol_spec.specs.Member.Member.{Member}
-use Rattle.scene_spec.specs.Seats.{Seated}
-use Rattle.scene_spec.specs.Starts.{started}
-use Rattle.scene_spec.specs.Terms.{Terms, rules_for}
+use Rattle.world_spec.specs.Seats.{Seated}
+use Rattle.world_spec.specs.Starts.{started}
+use Rattle.world_spec.specs.Terms.{Terms, rules_for}
 use Rattle.sui_validator.specs.Journals.{Records, Stays}
 use Rattle.sui_validator.specs.declared.opening.OpenRefusal.{OpenRefusal}
 use Rattle.sui_validator.specs.declared.opening.OpenRefusal.TheVariants as no_open

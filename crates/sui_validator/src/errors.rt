@@ -4,13 +4,13 @@ ghost use Rattle.std.specs.Prelude.{◌≡◌};
 ghost use Rattle.sui_validator.specs.declared.errors.Error.TheVariants as errors;
 
 use crate::opening::OpenRefusal;
-use answer_types::{
-    AckRefusal, CloseRefusal, EndRefusal, HoldRefusal, RunRefusal, SeeRefusal, StartRefusal,
-    TurnRefusal, VoteRefusal,
-};
 use disk_log::OpenRefusal as DiskRefusal;
 use light_client::Refusal;
 use outside::OutFault;
+use protocol_spec::{
+    AckRefusal, CloseRefusal, EndRefusal, HoldRefusal, RunRefusal, SeeRefusal, StartRefusal,
+    TurnRefusal, VoteRefusal,
+};
 use quorum_core::CommitteeRefusal;
 use std::{error, fmt};
 use wallet_core::{EncodeRefusal, GatherRefusal};

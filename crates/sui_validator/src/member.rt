@@ -5,29 +5,29 @@ ghost use Rattle.outside.specs.Causes.{Rose};
 ghost use Rattle.protocol_spec.specs.Member.Versions.{object_in, version_at, versions as versions_of};
 ghost use Rattle.protocol_spec.specs.Member.Member.{built as built_by, fork_of};
 ghost use Rattle.protocol_spec.specs.Member.Calls.{closes, holds, runs, sees, turns, votes};
-ghost use Rattle.answer_types.specs.declared.refusals.VoteRefusal.TheVariants as no_vote;
-ghost use Rattle.answer_types.specs.declared.refusals.TurnRefusal.TheVariants as no_turn;
-ghost use Rattle.answer_types.specs.declared.refusals.SeeRefusal.TheVariants as no_see;
-ghost use Rattle.answer_types.specs.declared.refusals.RunRefusal.TheVariants as no_run;
-ghost use Rattle.answer_types.specs.declared.refusals.CloseRefusal.TheVariants as no_close;
-ghost use Rattle.answer_types.specs.declared.refusals.HoldRefusal.TheVariants as no_hold;
+ghost use Rattle.protocol_spec.specs.declared.refusals.VoteRefusal.TheVariants as no_vote;
+ghost use Rattle.protocol_spec.specs.declared.refusals.TurnRefusal.TheVariants as no_turn;
+ghost use Rattle.protocol_spec.specs.declared.refusals.SeeRefusal.TheVariants as no_see;
+ghost use Rattle.protocol_spec.specs.declared.refusals.RunRefusal.TheVariants as no_run;
+ghost use Rattle.protocol_spec.specs.declared.refusals.CloseRefusal.TheVariants as no_close;
+ghost use Rattle.protocol_spec.specs.declared.refusals.HoldRefusal.TheVariants as no_hold;
 ghost use Rattle.validator_core.specs.Calls.{Acks, Closes, Ends, Holds, Runs, Sees, Turns, Votes, ack_said, close_ended, close_said, end_said, hold_ended, hold_said, run_ended, run_said, see_ended, see_said, turn_ended, turn_said, vote_ended, vote_said};
 ghost use Rattle.validator_core.specs.Seats.{Behaves};
-ghost use Rattle.scene_spec.specs.Seats.{bare_rules, due_at, rules_of_seat};
+ghost use Rattle.world_spec.specs.Seats.{bare_rules, due_at, rules_of_seat};
 ghost use Rattle.sui_validator.specs.Journals.{Kept};
 
 use crate::journal::Journal;
 use crate::sole::Sole;
 use crate::workers::Workers;
-use answer_types::{
-    AckRefusal, CloseRefusal, EndRefusal, HoldRefusal, Ran, RunRefusal, SeeRefusal, Seen,
-    TurnRefusal, VoteRefusal, Voted,
-};
 use chain_messages::Sealed;
 use chain_types::{Object, ObjectKey};
 use checkpoint_core::Checkpoint;
 use dag_pool::OpenGate;
 use digest_core::Digest;
+use protocol_spec::{
+    AckRefusal, CloseRefusal, EndRefusal, HoldRefusal, Ran, RunRefusal, SeeRefusal, Seen,
+    TurnRefusal, VoteRefusal, Voted,
+};
 use quorum_core::Sealer;
 use std::marker::Model;
 use std::thread::Threads;
@@ -57,7 +57,8 @@ impl<J: Journal, S: Sealer> Model for Member<J, S> {
 impl<J: Journal, S: Sealer> Member<J, S> {
     /// Asks the member for its vote for the transaction that the bytes encode. A new vote's record stands in the journal before
     /// the vote is given. `KeepFault` comes only if a record is due, running out of memory only if the member is up and met
-    /// no fork; so neither replaces `Down` or `Halted`, here and in the calls that follow.
+    /// no fork; so neither replaces `Down` or `Halted`, here and in the calls that follow. After both the member is down, and
+    /// nothing is left of its state: looks find what a member of no records has that opened with nothing.
     pub fn vote(&mut self, bytes: &[u8]) -> Result<Voted, VoteRefusal>
         ensures answer { Votes (S.accepts self.old.sealer) self.old.seat.member (vote_said (rules_of_seat self.old.seat (S.accepts self.old.sealer)) self.old.seat bytes.now) result }
         ensures state { Behaves (rules_of_seat self.old.seat (S.accepts self.old.sealer)) (votes bytes.now) self.old.seat self.new.seat (vote_ended result) }

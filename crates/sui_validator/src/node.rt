@@ -12,11 +12,11 @@ pub use crate::journals::{MemJournal, journal_in_memory, journal_over_disk};
 pub use crate::member::Member;
 pub use crate::opening::OpenRefusal;
 pub use crate::workers::Workers;
-pub use answer_types::{
-    AckRefusal, CloseRefusal, EndRefusal, HoldRefusal, Ran, RunRefusal, SeeRefusal, Seen, SeenWhat,
-    TurnRefusal, VoteRefusal, Voted,
-};
 pub use chain_types::CertRefusal;
 pub use disk_log::{Disk, MemDisk, OpenRefusal as DiskRefusal};
 pub use outside::{Keeper, OutFault};
+pub use protocol_spec::{
+    AckRefusal, CloseRefusal, EndRefusal, HoldRefusal, Ran, RunRefusal, SeeRefusal, Seen, SeenWhat,
+    TurnRefusal, VoteRefusal, Voted,
+};
 pub use quorum_core::{Committee, CommitteeRefusal, KeyedSeal, Sealer, Signer};

@@ -2,7 +2,7 @@
 use Rattle.std.proofs.Common.{◌≡◌, Bool, true, false, cond, List, [], ◌∷◌, ◌++◌, Option, Some, None, is_some, map, refl, ap, sym, ◌∙◌}
 use Rattle.std.specs.Map.{lookup}
 use Rattle.indexmap.specs.IndexMap.{insert_entry}
-use Rattle.tables.specs.Named.{FirstOf, Named, first_name, first_of, named, with_first, with_name}
+use Rattle.tables.specs.Named.{Named, named, with_name}
 use Rattle.std.specs.Prelude.{ℕ}
 
 module _ {K V : Type 0} (same : K → K → Bool) where
@@ -86,40 +86,3 @@ lookup_push test (e ∷ es) k v = by (test e.0) (lookup_push test es k v)
         → cond b (Some e.1) (lookup test (es ++ (k, v) ∷ [])) ≡ or_else (cond b (Some e.1) (lookup test es)) (cond (test k) (Some v) None)
     by true more = refl
     by false more = more
-
-first_name-push : {A : Type 0} → (test : A → Bool) (es : Named A) (name : List ℕ) (x : A) → first_name test (es ++ (name, x) ∷ []) ≡ or_else (first_name test es) (cond (test x) (Some name) None)
-first_name-push test [] name x = refl
-first_name-push test (e ∷ es) name x = by (test e.1) (first_name-push test es name x)
-  where
-    by : (b : Bool) → first_name test (es ++ (name, x) ∷ []) ≡ or_else (first_name test es) (cond (test x) (Some name) None)
-        → cond b (Some e.0) (first_name test (es ++ (name, x) ∷ [])) ≡ or_else (cond b (Some e.0) (first_name test es)) (cond (test x) (Some name) None)
-    by true more = refl
-    by false more = more
-
--- a table of first names that says what the names say still does after one more name
-pub first_more : {K A : Type 0} → (same : K → K → Bool) (one : (a b : K) → same a b ≡ true → a ≡ b) (key : A → K) (names : FirstOf K) (es : Named A) (name : List ℕ) (x : A)
-    → ((k : K) → first_of same names k ≡ first_name (λ a. same k (key a)) es) → (k : K)
-    → first_of same (with_first same names (key x) name) k ≡ first_name (λ a. same k (key a)) (es ++ (name, x) ∷ [])
-first_more {K} same one key names es name x says k =
-    by (first_of same names (key x)) refl ∙ sym (first_name-push (λ a. same k (key a)) es name x ∙ ap (λ o. or_else o (cond (same k (key x)) (Some name) None)) (sym (says k)))
-  where
-    old : (o : Option (List ℕ)) → first_of same names k ≡ o → is_some (first_of same names (key x)) ≡ true
-        → first_of same names k ≡ or_else (first_of same names k) (cond (same k (key x)) (Some name) None)
-    old (Some n) is there = is ∙ sym (ap (λ o. or_else o (cond (same k (key x)) (Some name) None)) is)
-    old None is there = test (same k (key x)) refl
-      where
-        test : (b : Bool) → same k (key x) ≡ b → first_of same names k ≡ or_else (first_of same names k) (cond (same k (key x)) (Some name) None)
-        test true e =
-            let none : is_some (first_of same names (key x)) ≡ false = ap is_some (ap (first_of same names) (sym (one k (key x) e)) ∙ is) in
-            absurd (clash (sym there ∙ none))
-        test false e = is ∙ sym (ap (λ o. or_else o (cond (same k (key x)) (Some name) None)) is ∙ ap (λ b. cond b (Some name) None) e)
-
-    by : (o : Option (List ℕ)) → first_of same names (key x) ≡ o
-        → first_of same (with_first same names (key x) name) k ≡ or_else (first_of same names k) (cond (same k (key x)) (Some name) None)
-    by (Some n) is = ap (λ o. first_of same (cond (is_some o) names (names ++ (key x, name) ∷ [])) k) is ∙ old (first_of same names k) refl (ap is_some is)
-    by None is = ap (λ o. first_of same (cond (is_some o) names (names ++ (key x, name) ∷ [])) k) is ∙ lookup_push (same k) names (key x) name
-
--- the values, whatever the keys stand for
-pub values_named : {K A : Type 0} → (f : K → List ℕ) (es : List (K × A)) → map (λ (e : List ℕ × A). e.1) (named_by f es) ≡ map (λ (e : K × A). e.1) es
-values_named f [] = refl
-values_named f (e ∷ es) = ap (λ xs. e.1 ∷ xs) (values_named f es)

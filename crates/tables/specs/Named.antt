@@ -1,5 +1,5 @@
 -- What is known under names, and the first name of each thing.
-use Rattle.std.specs.Prelude.{ℕ, Bool, List, [], ◌∷◌, ◌++◌, Option, Some, None, is_some, bytes_eq, if◌then◌else◌}
+use Rattle.std.specs.Prelude.{ℕ, Bool, List, [], ◌∷◌, ◌++◌, Option, is_some, bytes_eq, if◌then◌else◌}
 use Rattle.std.specs.Map.{lookup}
 
 -- values under names, in the order of naming
@@ -13,11 +13,6 @@ named entries name = lookup (bytes_eq name) entries
 -- the name is given, unless it was given before
 abbrev pub with_name : {A : Type 0} → Named A → List ℕ → A → Named A
 with_name entries name x = if is_some (named entries name) then entries else entries ++ (name, x) ∷ []
-
--- the first name of what passes the test
-abbrev pub first_name : {A : Type 0} → (A → Bool) → Named A → Option (List ℕ)
-first_name test [] = None
-first_name test (e ∷ es) = if test e.1 then Some e.0 else first_name test es
 
 -- the first name of each key
 abbrev pub FirstOf : Type 0 → Type 0

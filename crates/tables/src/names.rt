@@ -1,14 +1,13 @@
 //! Values by their name.
 
-ghost use Rattle.std.specs.Prelude.{◌≡◌, ◌==◌, ◌-◌, ℕ, List, [], IfOk, OnOk, OnErr, map, length, option_copied, is_some, take};
-ghost use Rattle.indexmap.specs.IndexMap.{values as values_of};
+ghost use Rattle.std.specs.Prelude.{◌≡◌, ◌==◌, ℕ, List, [], OnOk, OnErr, map, length, option_copied, is_some};
 ghost use Rattle.tables.specs.Named.{named, with_name};
 
 use crate::entries::insert_new;
 use indexmap::IndexMap;
 use std::alloc::Global;
 use std::marker::Model;
-use wire_bcs::{OutOfMemory, Seq};
+use wire_bcs::OutOfMemory;
 
 /// What is known under names. Contracts see the pairs of name and value, in the order of naming.
 #[derive(Drop)]
@@ -78,34 +77,5 @@ impl<T> NameMap<T> {
         let name = Vec::from_slice(self.alloc, name)?;
         insert_new(&mut self.values, name, value)?;
         Ok(())
-    }
-
-    /// Takes the last name back. Takes no memory.
-    pub fn forget_last(&mut self)
-    where
-        T: Drop,
-        ensures { self.new ≡ take (length self.old - 1) self.old }
-    {
-        let _last = self.values.pop();
-    }
-}
-
-/// The values of a map, in order.
-fn copies_of<T: Copy + Drop>(
-    alloc: Global,
-    values: &IndexMap<Vec<u8>, T>,
-) -> Result<Vec<T>, OutOfMemory>
-    ensures { IfOk result (λ v. v.items ≡ values_of values.now) }
-{
-    Ok(values.values().copied().collect(alloc)?)
-}
-
-impl<T: Copy + Drop> NameMap<T> {
-    /// The values, in the order of naming.
-    pub fn copies(&self, alloc: Global) -> Result<Seq<T>, OutOfMemory>
-        ensures { IfOk result (λ values. values ≡ map (λ (e : List ℕ × T). e.1) self.now) }
-    {
-        let values = copies_of(alloc, &self.values)?;
-        Ok(Seq::from_vec(values))
     }
 }

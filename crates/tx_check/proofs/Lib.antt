@@ -1,4 +1,5 @@
 pub mod Both
+pub mod Brief
 pub mod Least
 pub mod Long
 pub mod Objects

@@ -1,12 +1,15 @@
 -- The parts in which a transaction is looked at.
-use Rattle.std.specs.Prelude.{ℕ, Bool, true, false, List, [], ◌∷◌, ◌++◌, Option, Some, None, if◌then◌else◌}
+use Rattle.std.specs.Prelude.{ℕ, Bool, true, false, ◌||◌, List, [], ◌∷◌, ◌++◌, Option, Some, None, if◌then◌else◌}
 use Rattle.std.specs.List.{list_any}
 use Rattle.chain_types.specs.declared.transactions.Argument.{Argument}
 use Rattle.chain_types.specs.declared.transactions.Command.{Command}
 use Rattle.chain_types.specs.declared.transactions.Command.TheVariants as command
+use Rattle.chain_types.specs.declared.transactions.Input.{Input}
+use Rattle.chain_types.specs.declared.transactions.Input.TheVariants as input
 use Rattle.chain_types.specs.declared.transactions.Transaction.{Transaction}
 use Rattle.chain_types.specs.declared.objects.ObjectId.{ObjectId}
 use Rattle.chain_types.specs.Equal.{id_eq}
+use Rattle.protocol_spec.specs.Chain.Keys.{named_id}
 use Rattle.protocol_spec.specs.Chain.Shape.{shape_cases}
 use Rattle.protocol_spec.specs.Chain.Words.{first_some}
 
@@ -36,6 +39,24 @@ any_lone test (Some argument) = test argument
 abbrev pub repeats_after : List ObjectId → List ObjectId → Bool
 repeats_after seen [] = false
 repeats_after seen (id ∷ rest) = if list_any (λ other. id_eq id other) seen then true else repeats_after (seen ++ id ∷ []) rest
+
+-- ---- ids among inputs
+
+abbrev pub names_id : ObjectId → Input → Bool
+names_id id (input.Pure bytes) = false
+names_id id (input.Owned r) = id_eq id r.id
+names_id id (input.Immutable r) = id_eq id r.id
+names_id id (input.Shared other initial mutable) = id_eq id other
+
+-- whether an id, if there is one, is named by one of the inputs
+abbrev pub again_if : Option ObjectId → List Input → Bool
+again_if None inputs = false
+again_if (Some id) inputs = list_any (names_id id) inputs
+
+-- whether two of the inputs name one id
+abbrev pub two_named : List Input → Bool
+two_named [] = false
+two_named (i ∷ is) = again_if (named_id i) is || two_named is
 
 -- ---- the first five faults, and the others
 

@@ -65,7 +65,7 @@ fn lone_of(command: &Command) -> Option<Argument>
 }
 
 /// The list of arguments of a command.
-fn listed_of(command: &Command) -> &[Argument]
+pub(crate) fn listed_of(command: &Command) -> &[Argument]
     ensures { result.now ≡ listed_of command.now }
 {
     match command {

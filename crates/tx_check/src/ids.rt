@@ -6,7 +6,7 @@ ghost use Rattle.chain_types.specs.Equal.{id_eq};
 ghost use Rattle.chain_types.specs.declared.objects.Object.{Object};
 ghost use Rattle.protocol_spec.specs.Chain.Keys.{named_id, named_ids};
 ghost use Rattle.protocol_spec.specs.Chain.Words.{repeats};
-ghost use Rattle.tx_check.specs.Parts.{repeats_after};
+ghost use Rattle.tx_check.specs.Parts.{again_if, names_id, repeats_after, two_named};
 
 use chain_types::{Input, Object, ObjectId, Transaction};
 use indexmap::IndexSet;
@@ -64,13 +64,79 @@ fn has_twice(alloc: Global, ids: &[ObjectId]) -> Result<bool, OutOfMemory>
     Ok(false)
 }
 
-/// Whether the transaction names an id twice.
+/// Whether the input names the id. Takes no memory.
+fn names_id(id: &ObjectId, input: &Input) -> bool
+    ensures { result ≡ names_id id.now input.now }
+{
+    match input {
+        Input::Pure(_) => false,
+        Input::Owned(reference) => *id == reference.id,
+        Input::Immutable(reference) => *id == reference.id,
+        Input::Shared { id: other, .. } => *id == *other,
+    }
+}
+
+/// Whether one of the inputs names the id. Takes no memory.
+fn is_named(id: &ObjectId, inputs: &[Input]) -> bool
+    ensures { result ≡ list_any (names_id id.now) inputs.now }
+{
+    for input in inputs {
+        if names_id(id, input) {
+            return true;
+        }
+    }
+    false
+}
+
+/// Whether one of the inputs names the id of this one. Takes no memory.
+fn is_again(input: &Input, inputs: &[Input]) -> bool
+    ensures { result ≡ again_if (named_id input.now) inputs.now }
+{
+    match named_id(input) {
+        Some(id) => is_named(&id, inputs),
+        None => false,
+    }
+}
+
+/// Whether two of the inputs name one id. Takes no memory; the time is quadratic.
+fn two_named(inputs: &[Input]) -> bool
+    ensures { result ≡ two_named inputs.now }
+{
+    let mut rest = inputs;
+    while let [input, after @ ..] = rest {
+        if is_again(input, after) {
+            return true;
+        }
+        rest = after;
+    }
+    false
+}
+
+/// Whether a transaction of few inputs names an id twice. Takes no memory.
+#[tactic(auto, using(crate::proofs::Objects::ids_repeat))]
+fn few_repeat(tx: &Transaction) -> bool
+    ensures { result ≡ repeats id_eq (named_ids tx.now) }
+{
+    is_named(&tx.gas.id, tx.inputs.as_slice()) || two_named(tx.inputs.as_slice())
+}
+
+/// Whether a transaction of many inputs names an id twice.
 #[tactic(auto, using(crate::proofs::Twice::repeats_whole))]
-pub(crate) fn repeats_id(alloc: Global, tx: &Transaction) -> Result<bool, OutOfMemory>
+fn many_repeat(alloc: Global, tx: &Transaction) -> Result<bool, OutOfMemory>
     ensures { IfOk result (λ twice. twice ≡ repeats id_eq (named_ids tx.now)) }
 {
     let ids = named_ids(alloc, tx)?;
     has_twice(alloc, ids.as_slice())
+}
+
+/// Whether the transaction names an id twice. Few ids are compared with one another, without a set of them.
+pub(crate) fn repeats_id(alloc: Global, tx: &Transaction) -> Result<bool, OutOfMemory>
+    ensures { IfOk result (λ twice. twice ≡ repeats id_eq (named_ids tx.now)) }
+{
+    if tx.inputs.len() <= 8 {
+        return Ok(few_repeat(tx));
+    }
+    many_repeat(alloc, tx)
 }
 
 /// The ids of the objects.

@@ -7,9 +7,9 @@ use Rattle.digest_core.specs.declared.Digest.{Digest}
 use Rattle.chain_types.specs.declared.objects.ObjectId.{ObjectId}
 use Rattle.chain_types.specs.Equal.{digest_eq}
 use Rattle.quorum_core.specs.Committee.{is_among, is_quorum, weight}
-use Rattle.answer_types.specs.declared.answers.Held.{Held}
-use Rattle.answer_types.specs.declared.answers.SeenWhat.{SeenWhat}
-use Rattle.answer_types.specs.declared.answers.SeenWhat.TheVariants as seen_as
+use Rattle.protocol_spec.specs.declared.answers.Held.{Held}
+use Rattle.protocol_spec.specs.declared.answers.SeenWhat.{SeenWhat}
+use Rattle.protocol_spec.specs.declared.answers.SeenWhat.TheVariants as seen_as
 use Rattle.protocol_spec.proofs.Equality.{digest_self}
 use Rattle.protocol_spec.proofs.ListLemmas.{front_length, drop_all}
 use Rattle.protocol_spec.specs.Chain.Certificates.{Rules}
@@ -17,7 +17,7 @@ use Rattle.protocol_spec.specs.Chain.Words.{IsFront}
 use Rattle.protocol_spec.specs.Member.Admission.{Admission, Admitted, deferred_on, digest_of_admitted, entered, passed_mark, pending_on, since_mark}
 use Rattle.protocol_spec.specs.Member.Checkpoints.{held_of, zero_digest}
 use Rattle.protocol_spec.specs.Member.Votes.{Cast}
-use Rattle.scene_spec.specs.Terms.{rules_for}
+use Rattle.world_spec.specs.Terms.{rules_for}
 use Rattle.protocol_spec.specs.Member.Sequence.{Cut, Sequence, What, with_entry, commits, counted_what, counts, cut_of, ignores, newly_admitted, newly_dropped, numbered, seen_what, takes, waiting_on}
 use Rattle.epoch_turn.specs.declared.due.CutMark.{CutMark}
 use Rattle.epoch_turn.specs.Chains.{AddsCuts, Chaining, KeepsCuts, StaysBehind, uncut, with_cut, with_mark}
@@ -99,9 +99,6 @@ module _ (c : Course) (sound : IsSound c) where
   told_length = ap length u.told ∙ length-map a.admitted (due_of c.held)
 
   -- ---- a certificate
-
-  abbrev pub admitted_now : Admitting → Course
-  admitted_now adm = record c { admission = adm }
 
   module _ (h : Held) where
     entered_is : entered c.admission.writers c.admission.opening a h ≡ entered c.admission.writers c.store.opening a h

@@ -1,6 +1,6 @@
 -- The cases of each call, one lemma for each way through it.
-use Rattle.std.proofs.Common.{◌≡◌, ◌≤◌, ℕ, Bool, true, false, List, [], ◌∷◌, ◌++◌, length, Option, Some, None, refl, ap, sym, ◌∙◌, subst}
-use Rattle.std.specs.Prelude.{Result, Ok, Err, not, find, option_map, is_ok, IfSome}
+use Rattle.std.proofs.Common.{◌≡◌, ◌≤◌, ℕ, Bool, true, false, List, [], ◌∷◌, length, Option, Some, None, refl, ap, sym, ◌∙◌, subst}
+use Rattle.std.specs.Prelude.{Result, Ok, Err, find, option_map, is_ok, IfSome}
 use Rattle.digest_core.specs.declared.Digest.{Digest}
 use Rattle.chain_types.specs.declared.objects.ObjectKey.{ObjectKey}
 use Rattle.chain_types.specs.Digests.{consumed_keys, transaction_digest}
@@ -9,24 +9,20 @@ use Rattle.wire_bcs.specs.Whole.{whole}
 use Rattle.chain_messages.specs.Messages as messages
 use Rattle.protocol_spec.proofs.Checked.{valid_shape, valid_length}
 use Rattle.protocol_spec.specs.Chain.Certificates.{Rules, cert_refusal, read_as, read_certificate}
-use Rattle.protocol_spec.specs.Chain.Words.{Each, first_of, first_some, refused_or, unless_refused, where_true}
+use Rattle.protocol_spec.specs.Chain.Words.{first_of, first_some, refused_or, unless_refused, where_true}
 use Rattle.std.proofs.lemmas.List.{length-map}
-use Rattle.protocol_spec.proofs.ListLemmas.{find-each, each_push}
-use Rattle.answer_types.specs.declared.answers.Held.{Held}
-use Rattle.chain_types.specs.declared.refusals.CertRefusal.{CertRefusal}
-use Rattle.chain_types.specs.declared.refusals.CertRefusal.TheVariants as refused
-use Rattle.protocol_spec.specs.Chain.Shape.{shape_fault}
+use Rattle.protocol_spec.proofs.ListLemmas.{find-each}
+use Rattle.protocol_spec.specs.declared.answers.Held.{Held}
 use Rattle.journal_core.specs.declared.records.Record.TheVariants as record_as
-use Rattle.answer_types.specs.declared.refusals.HoldRefusal.{HoldRefusal}
-use Rattle.answer_types.specs.declared.refusals.HoldRefusal.TheVariants as no_hold
-use Rattle.answer_types.specs.declared.answers.Ran.{Ran}
-use Rattle.answer_types.specs.declared.refusals.RunRefusal.{RunRefusal}
+use Rattle.protocol_spec.specs.declared.refusals.HoldRefusal.{HoldRefusal}
+use Rattle.protocol_spec.specs.declared.refusals.HoldRefusal.TheVariants as no_hold
+use Rattle.protocol_spec.specs.declared.answers.Ran.{Ran}
+use Rattle.protocol_spec.specs.declared.refusals.RunRefusal.{RunRefusal}
 use Rattle.protocol_spec.specs.Member.Sequence.{Sequence, held_as}
 use Rattle.chain_types.specs.declared.transactions.Transaction.{Transaction}
 use Rattle.protocol_spec.specs.Chain.Keys.{objects_of}
 use Rattle.cert_rules.proofs.Whole.{few_objects}
 use Rattle.protocol_spec.specs.Member.Votes.{Ballot, Cast, origin_of, vote_origins, vote_refusal}
-use Rattle.exec_plan.specs.Books.{IsSound}
 use Rattle.protocol_spec.specs.Member.Member.{Fork, Member, ballot, consumes, fork_at, fork_with, vote_for}
 use Rattle.vote_rules.proofs.Free.{free_where_decided}
 use Rattle.protocol_spec.specs.Member.Admission.{is_known}
@@ -83,15 +79,6 @@ module _ (r : Rules) (m : Member) (c : Certificate) (keys : List ObjectKey) (dig
   hold_new e =
       valid_hold r m c unclosed valid
       ∙ ap (λ o. unless_refused (first_some (option_map (λ (f : Fork). no_hold.Fork f.key f.first f.second) o ∷ [])) true) (met ∙ ap (option_map (fork_as (transaction_digest c.tx))) e)
-
-shape_part : (o : Option ℕ) (rest : List (Option CertRefusal)) → first_some (option_map refused.Shape o ∷ rest) ≡ None → o ≡ None
-shape_part None rest h = refl
-shape_part (Some n) rest h = absurd (cc)
-
-each_origin : (o : Option ℕ) (same : Bool) (rest : List (Option CertRefusal)) → first_some (option_map refused.Shape o ∷ where_true (not same) (refused.Shape 13) ∷ rest) ≡ None → same ≡ true
-each_origin None true rest h = refl
-each_origin None false rest h = absurd (cc)
-each_origin (Some n) same rest h = absurd (cc)
 
 -- so a valid one that is not in the sequence can be admitted
 pub arriving : (r : Rules) (q : Sequence) (c : Certificate) (digest : Digest) → digest ≡ transaction_digest c.tx → cert_refusal r c ≡ None → is_known q.admission digest ≡ false → IsArriving q (record { digest = digest; cert = c })
@@ -166,6 +153,3 @@ is_free m t digest origins is new few none named = record {
 pub goes_alike : (o : Option RunRefusal) (answer : Result (Unit {0}) RunRefusal) (ran : Ran) → answer ≡ unless_refused o tt → is_ok answer ≡ is_ok (unless_refused o ran)
 goes_alike None answer ran e = ap (λ (a : Result (Unit {0}) RunRefusal). is_ok a) e
 goes_alike (Some refusal) answer ran e = ap (λ (a : Result (Unit {0}) RunRefusal). is_ok a) e
-
-pub one_more_sound : (held : List Held) (h : Held) → Each IsSound held → shape_fault h.cert.tx ≡ None → h.digest ≡ transaction_digest h.cert.tx → Each IsSound (held ++ h ∷ [])
-one_more_sound held h sound shape digest = each_push IsSound held h sound (shape, digest)

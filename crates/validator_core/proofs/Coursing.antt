@@ -1,14 +1,13 @@
 -- How what a member has of its epoch stays sound.
-use Rattle.std.proofs.Common.{◌≡◌, ◌∙◌, arith, ℕ, ◌≤◌, Bool, true, false, cond, List, [], ◌∷◌, ◌++◌, map, length, refl, sym, ap, subst, append-nil}
+use Rattle.std.proofs.Common.{◌≡◌, ◌∙◌, arith, ℕ, ◌≤◌, Bool, true, false, cond, List, [], ◌∷◌, ◌++◌, map, length, refl, sym, ap, subst}
 use Rattle.std.specs.Prelude.{Some, filter, IfOk, Result, Ok, Err, find, is_some}
 use Rattle.chain_types.specs.declared.objects.Object.{Object}
 use Rattle.chain_types.specs.Equal.{digest_eq}
-use Rattle.answer_types.specs.declared.answers.Held.{Held}
+use Rattle.protocol_spec.specs.declared.answers.Held.{Held}
 use Rattle.protocol_spec.proofs.ListLemmas.{each_as, each_push}
 use Rattle.protocol_spec.specs.Chain.Words.{Each}
 use Rattle.protocol_spec.specs.Member.Admission.{Admission, Admitted, nothing_admitted}
-use Rattle.protocol_spec.specs.Member.Versions.{Execution}
-use Rattle.epoch_turn.specs.Chains.{BuildsAll, Chaining, IsAhead, IsBehind, IsTold, StartsBehind, StaysBehind, advanced, nothing_built, turned}
+use Rattle.epoch_turn.specs.Chains.{BuildsAll, Chaining, IsTold, StartsBehind, StaysBehind, nothing_built, turned}
 use Rattle.epoch_turn.specs.Dues.{due_of, size_of}
 use Rattle.epoch_turn.proofs.Told.{all_built, told_held}
 use Rattle.exec_plan.specs.Books.{IsSound as IsSoundHeld}
@@ -18,7 +17,7 @@ use Rattle.version_assign.specs.Sharing.{HasShared, KeepsShared}
 use Rattle.version_assign.specs.Calls.{is_shared_one}
 use Rattle.version_assign.proofs.Sharing.{shared_keeps}
 use Rattle.version_store.proofs.Openings.{single_apart}
-use Rattle.scene_spec.specs.Starts.{AreApart}
+use Rattle.world_spec.specs.Starts.{AreApart}
 use Rattle.version_store.specs.Stores.{Stored}
 use Rattle.validator_core.specs.declared.course.Course.{Course}
 use Rattle.epoch_turn.specs.Openings.{Opens}
@@ -124,52 +123,6 @@ let_in_sound c waiting chain from is waits marks more stays told = record {
   told = told;
   behind = stays c.epoch c.store.executed is.behind;
 }
-
--- ---- checkpoints
-
-abbrev pub chained_now : Course → Chaining → Course
-chained_now c chain = record c { chain = chain }
-
-pub advance_sound : (c : Course) (chain : Chaining) → IsUnbuilt c → chain ≡ advanced c.epoch c.store.executed c.chain → BuildsAll c.epoch c.store.executed chain → IsAhead c.epoch c.store.executed chain → IsSound (chained_now c chain)
-advance_sound c chain u is all ahead = record {
-  unbuilt = record {
-    held = u.held;
-    waits = u.waits;
-    opening = u.opening;
-    shared = u.shared;
-    known = u.known;
-    marked = λ unended. u.marked unended ∙ sym (ap (λ (ch : Chaining). size_of ch.marks) is);
-    few = subst (λ (ch : Chaining). size_of ch.marks ≤ length ch.due) (sym is) u.few;
-    told = ap (λ (ch : Chaining). ch.due) is ∙ u.told;
-    behind = subst (λ (xs : List Execution). IsBehind c.epoch xs chain) (append-nil c.store.executed) (ahead []);
-  };
-  ahead = ahead;
-  all = all;
-}
-
--- ---- a run
-
-abbrev pub run_now : Course → Stored → Waiting → Course
-run_now c store waiting = record c { store = store; waiting = waiting }
-
-pub run_sound : (c : Course) (store : Stored) (waiting : Waiting) (more : List Execution) → IsSound c → store ≡ record c.store { executed = c.store.executed ++ more } → IsWaiting store c.admission.admission c.held waiting → IsUnbuilt (run_now c store waiting)
-run_sound c store waiting more sound is waits = record {
-  held = u.held;
-  waits = waits;
-  opening = subst (Opens c.admission.opening) (sym opened) u.opening;
-  shared = subst (λ (os : List Object). HasShared os c.admission.admission) (sym opened) u.shared;
-  known = u.known;
-  marked = u.marked;
-  few = u.few;
-  told = u.told;
-  behind = subst (λ (xs : List Execution). IsBehind c.epoch xs c.chain) (sym (ap (λ (s : Stored). s.executed) is)) (sound.ahead more);
-}
-  where
-    u : IsUnbuilt c
-    u = sound.unbuilt
-
-    opened : store.opening ≡ c.store.opening
-    opened = ap (λ (s : Stored). s.opening) is
 
 -- ---- a result
 

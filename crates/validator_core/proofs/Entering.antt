@@ -2,7 +2,7 @@
 use Rattle.std.proofs.Common.{◌≡◌, ◌∙◌, ℕ, zero, suc, Bool, true, false, List, [], ◌∷◌, ◌++◌, length, refl, sym, append-nil}
 use Rattle.std.specs.Prelude.{Option, Some, None, find}
 use Rattle.chain_types.specs.declared.objects.Object.{Object}
-use Rattle.answer_types.specs.declared.answers.Held.{Held}
+use Rattle.protocol_spec.specs.declared.answers.Held.{Held}
 use Rattle.protocol_spec.specs.Chain.Words.{Each, IsFront}
 use Rattle.protocol_spec.proofs.ListLemmas.{find-each, front_then, each_filter, each_push}
 use Rattle.protocol_spec.specs.Member.Admission.{Admission, admit, entered, is_dropped, is_free, not_of, passed_mark, take_free, taken, taken_as, taken_next}

@@ -5,7 +5,7 @@ use Rattle.std.specs.List.{list_any}
 use Rattle.digest_core.specs.declared.Digest.{Digest}
 use Rattle.chain_types.specs.declared.objects.Object.{Object}
 use Rattle.chain_types.specs.Equal.{digest_eq}
-use Rattle.answer_types.specs.declared.answers.Held.{Held}
+use Rattle.protocol_spec.specs.declared.answers.Held.{Held}
 use Rattle.protocol_spec.proofs.Equality.{digest_same, digest_self}
 use Rattle.protocol_spec.proofs.ListLemmas.{any_front}
 use Rattle.protocol_spec.proofs.Truth.{or_right, or_left, or_true}
@@ -16,7 +16,7 @@ use Rattle.protocol_spec.specs.Member.Sequence.{counted_as}
 use Rattle.epoch_turn.specs.Dues.{front_length, is_ordered}
 use Rattle.validator_core.specs.declared.entries.Arrival.{Arrival}
 use Rattle.validator_core.specs.declared.entries.Arrival.TheVariants as arrivals
-use Rattle.validator_core.specs.Courses.{Coursed, arrives, numbered_in, ran, with_held}
+use Rattle.validator_core.specs.Courses.{Coursed, arrives, numbered_in, with_held}
 use Rattle.validator_core.specs.Sound.{ordered_front}
 
 -- ---- prefixes of lists
@@ -165,6 +165,3 @@ ordered_held n cs h new front is = subst (λ (x : Coursed). n ≤ ordered_front 
 
 pub ordered_behind : (stakes : List ℕ) (n : ℕ) (cs : Coursed) (arrival : Arrival) (new : Coursed) → n ≤ ordered_front cs → new ≡ numbered_in (arrives stakes cs arrival) → n ≤ ordered_front new
 ordered_behind stakes n cs arrival new front is = subst (λ (x : Coursed). n ≤ ordered_front x) (sym is) (let more = front_arrives stakes cs arrival in omega (arith, front, more))
-
-pub ordered_ran : (n : ℕ) (cs new : Coursed) → n ≤ ordered_front cs → new ≡ ran cs → n ≤ ordered_front new
-ordered_ran n cs new front is = subst (λ (x : Coursed). n ≤ ordered_front x) (sym is) front

@@ -9,7 +9,7 @@ use Rattle.protocol_spec.proofs.Truth.{or_false}
 use Rattle.protocol_spec.specs.Chain.Words.{repeats}
 use Rattle.protocol_spec.specs.Chain.Keys.{object_key}
 use Rattle.version_store.specs.Stores.{are_new}
-use Rattle.scene_spec.specs.Starts.{AreApart}
+use Rattle.world_spec.specs.Starts.{AreApart}
 
 other_keys : (objects : List Object) (o : Object) → list_any (id_eq o.id) (map (λ (p : Object). p.id) objects) ≡ false → list_any (key_eq (object_key o)) (map object_key objects) ≡ false
 other_keys [] o e = refl

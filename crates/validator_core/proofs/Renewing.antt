@@ -5,7 +5,7 @@ use Rattle.digest_core.specs.declared.Digest.{Digest}
 use Rattle.chain_types.specs.declared.objects.Object.{Object}
 use Rattle.chain_types.specs.Equal.{digest_eq}
 use Rattle.checkpoint_core.specs.declared.checkpoints.Checkpoint.{Checkpoint}
-use Rattle.answer_types.specs.declared.answers.Held.{Held}
+use Rattle.protocol_spec.specs.declared.answers.Held.{Held}
 use Rattle.protocol_spec.specs.Member.Admission.{Admission, nothing_admitted}
 use Rattle.protocol_spec.specs.Member.Checkpoints.{cut_digests, is_cut}
 use Rattle.protocol_spec.specs.Member.Sequence.{Sequence}

@@ -5,24 +5,24 @@ use Rattle.outside.specs.Lists.{Journals, KeepsJournals}
 use Rattle.journal_core.specs.declared.records.RanItem.{RanItem}
 use Rattle.journal_core.specs.declared.records.Record.{Record}
 use Rattle.journal_core.specs.declared.records.Record.TheVariants as record_as
-use Rattle.answer_types.specs.declared.answers.Ran.{Ran}
-use Rattle.answer_types.specs.declared.refusals.RunRefusal.{RunRefusal}
-use Rattle.answer_types.specs.declared.refusals.RunRefusal.TheVariants as no_run
-use Rattle.answer_types.specs.declared.refusals.CloseRefusal.{CloseRefusal}
-use Rattle.answer_types.specs.declared.refusals.CloseRefusal.TheVariants as no_close
+use Rattle.protocol_spec.specs.declared.answers.Ran.{Ran}
+use Rattle.protocol_spec.specs.declared.refusals.RunRefusal.{RunRefusal}
+use Rattle.protocol_spec.specs.declared.refusals.RunRefusal.TheVariants as no_run
+use Rattle.protocol_spec.specs.declared.refusals.CloseRefusal.{CloseRefusal}
+use Rattle.protocol_spec.specs.declared.refusals.CloseRefusal.TheVariants as no_close
 use Rattle.protocol_spec.specs.Chain.Words.{unless_refused, where_true}
 use Rattle.protocol_spec.specs.Member.Versions.{Execution}
 use Rattle.protocol_spec.specs.Member.Rounds.{rounds}
-use Rattle.protocol_spec.specs.Member.Member.{Member, after, books, with_rounds}
+use Rattle.protocol_spec.specs.Member.Member.{Member, after, books, fresh, with_rounds}
 use Rattle.protocol_spec.specs.Member.Calls.{after_due, called, close_answer, close_record, closes, due, ran_as, ran_item, ran_items, ran_record, run_answer, run_record, runs}
 use Rattle.validator_core.specs.Answers.{bare, close_stopped, run_stopped}
 use Rattle.validator_core.specs.Steps.{closing, counted_where}
 use Rattle.validator_core.specs.declared.keeping.Unkept.{Unkept}
 use Rattle.validator_core.specs.declared.keeping.Unkept.TheVariants as unkept
 use Rattle.validator_core.specs.Calls.{Closes, Runs, close_ended, close_said, run_ended, run_said, unkept_close, unkept_run}
-use Rattle.validator_core.specs.Seats.{Becomes, Behaves, Ended, Journaled, Keeps, answered, fell}
-use Rattle.scene_spec.proofs.RulesAside.{close_answer_alike, close_called_alike, close_due_alike, run_answer_alike, run_called_alike, run_due_alike}
-use Rattle.scene_spec.specs.Seats.{Seated, bare_rules, due_at}
+use Rattle.validator_core.specs.Seats.{Becomes, Behaves, Ended, Journaled, Keeps, answered, fell, has_fallen}
+use Rattle.world_spec.proofs.RulesAside.{close_answer_alike, close_called_alike, close_due_alike, run_answer_alike, run_called_alike, run_due_alike}
+use Rattle.world_spec.specs.Seats.{Seated, bare_rules, due_at}
 use Rattle.validator_core.proofs.Settling.{keeps_same, owed_at, seat_with, settles}
 
 -- ---- records that are due
@@ -187,8 +187,8 @@ closed_called m e = ap (after_due bare m) (sym (close_due m false e))
 
 -- ---- at the seat
 
-pub run_settles : (old : Seated) (state : Member) (e : Ended) → old.up ≡ true → Becomes (called bare old.state runs) state e → Behaves (bare_rules old) runs old (seat_with old state e) e
-run_settles old state e up h = settles (bare_rules old) runs old state e up (subst (λ (next : Member). Becomes next state e) (run_called_alike bare (bare_rules old) old.state) h)
+pub run_settles : (old : Seated) (mid state : Member) (e : Ended) → old.up ≡ true → Becomes (called bare old.state runs) mid e → state ≡ cond (has_fallen e) (fresh []) mid → Behaves (bare_rules old) runs old (seat_with old state e) e
+run_settles old mid state e up h left = settles (bare_rules old) runs old mid state e up (subst (λ (next : Member). Becomes next mid e) (run_called_alike bare (bare_rules old) old.state) h) left
 
 pub run_at : (old : Seated) (answer : Result Ran RunRefusal) → old.up ≡ true → Runs (run_answer bare old.state) answer → Runs (run_said (bare_rules old) old) answer
 run_at old answer up h =
@@ -204,8 +204,8 @@ run_owed_at old up h = owed_at (bare_rules old) old runs up (sym (ap (λ (o : Op
 pub close_owed_at : (old : Seated) → old.up ≡ true → is_some (due bare old.state closes) ≡ true → is_some (due_at (bare_rules old) old closes) ≡ true
 close_owed_at old up h = owed_at (bare_rules old) old closes up (sym (ap (λ (o : Option Record). is_some o) (close_due_alike bare (bare_rules old) old.state)) ∙ h)
 
-pub close_settles : (old : Seated) (state : Member) (e : Ended) → old.up ≡ true → Becomes (called bare old.state closes) state e → Behaves (bare_rules old) closes old (seat_with old state e) e
-close_settles old state e up h = settles (bare_rules old) closes old state e up (subst (λ (next : Member). Becomes next state e) (close_called_alike bare (bare_rules old) old.state) h)
+pub close_settles : (old : Seated) (mid state : Member) (e : Ended) → old.up ≡ true → Becomes (called bare old.state closes) mid e → state ≡ cond (has_fallen e) (fresh []) mid → Behaves (bare_rules old) closes old (seat_with old state e) e
+close_settles old mid state e up h left = settles (bare_rules old) closes old mid state e up (subst (λ (next : Member). Becomes next mid e) (close_called_alike bare (bare_rules old) old.state) h) left
 
 pub close_at : (old : Seated) (answer : Result Bool CloseRefusal) → old.up ≡ true → Closes (close_answer bare old.state) answer → Closes (close_said (bare_rules old) old) answer
 close_at old answer up h =

@@ -1,18 +1,18 @@
 -- An entry that a member sees: what is answered and due, and the state after it.
-use Rattle.std.proofs.Common.{◌≡◌, ◌+◌, ℕ, Bool, true, false, cond, List, Option, Some, None, inl, inr, refl, ap, sym, ◌∙◌, subst}
+use Rattle.std.proofs.Common.{◌≡◌, ◌+◌, ℕ, Bool, true, false, cond, List, [], Option, Some, None, inl, inr, refl, ap, sym, ◌∙◌, subst}
 use Rattle.std.specs.Prelude.{◌⊎◌, not, is_err, is_none, is_some, option_map, Result, Ok, Err}
 use Rattle.outside.specs.Lists.{Journals, KeepsJournals}
 use Rattle.checkpoint_core.specs.declared.checkpoints.Checkpoint.{Checkpoint}
 use Rattle.journal_core.specs.declared.records.Record.{Record}
 use Rattle.journal_core.specs.declared.records.Record.TheVariants as record_as
-use Rattle.answer_types.specs.declared.answers.Seen.{Seen}
-use Rattle.answer_types.specs.declared.answers.SeenWhat.{SeenWhat}
-use Rattle.answer_types.specs.declared.refusals.SeeRefusal.{SeeRefusal}
-use Rattle.answer_types.specs.declared.refusals.SeeRefusal.TheVariants as no_see
+use Rattle.protocol_spec.specs.declared.answers.Seen.{Seen}
+use Rattle.protocol_spec.specs.declared.answers.SeenWhat.{SeenWhat}
+use Rattle.protocol_spec.specs.declared.refusals.SeeRefusal.{SeeRefusal}
+use Rattle.protocol_spec.specs.declared.refusals.SeeRefusal.TheVariants as no_see
 use Rattle.protocol_spec.specs.Chain.Certificates.{Rules}
 use Rattle.protocol_spec.specs.Chain.Words.{first_some, refused_or, unless_refused}
 use Rattle.protocol_spec.specs.Member.Sequence.{What, saw, seen_what, what_of, with_entry}
-use Rattle.protocol_spec.specs.Member.Member.{Fork, Member, after, fork_of, held_with}
+use Rattle.protocol_spec.specs.Member.Member.{Fork, Member, after, fork_of, fresh, held_with}
 use Rattle.protocol_spec.specs.Member.Calls.{after_due, called, due, newly_built, see_after, see_answer, see_cases, see_fork, see_record, seen_as, sees}
 use Rattle.validator_core.specs.Calls.{Sees, see_ended, see_said, unkept_see}
 use Rattle.validator_core.specs.declared.keeping.Unkept.{Unkept}
@@ -20,9 +20,9 @@ use Rattle.validator_core.specs.declared.keeping.Unkept.TheVariants as unkept
 use Rattle.vote_rules.specs.Holders.{sides}
 use Rattle.vote_rules.specs.declared.held_book.Fork.{Fork as Sides}
 use Rattle.validator_core.specs.Entries.{behind_entry}
-use Rattle.validator_core.specs.Seats.{Becomes, Behaves, Ended, Journaled, Keeps, answered, fell}
-use Rattle.scene_spec.specs.Seats.{Seated, due_at, rules_of_seat}
-use Rattle.scene_spec.specs.Terms.{rules_for}
+use Rattle.validator_core.specs.Seats.{Becomes, Behaves, Ended, Journaled, Keeps, answered, fell, has_fallen}
+use Rattle.world_spec.specs.Seats.{Seated, due_at, rules_of_seat}
+use Rattle.world_spec.specs.Terms.{rules_for}
 use Rattle.validator_core.proofs.Refusing.{free, none_stops, stop, stopped_by}
 use Rattle.validator_core.proofs.Settling.{Signing, keeps_same, seat_with, settles}
 
@@ -146,9 +146,9 @@ see_maybe_kept before now member d x unkept.OutOfMemory is kept = subst (λ (y :
 
 -- ---- at the seat
 
-pub see_settles : (accepts : Signing) (old : Seated) (number : ℕ) (bytes : List ℕ) (state : Member) (e : Ended) → old.up ≡ true → Becomes (called (rules_for old.terms accepts) old.state (sees number bytes)) state e
-    → Behaves (rules_of_seat old accepts) (sees number bytes) old (seat_with old state e) e
-see_settles accepts old number bytes state e up h = settles (rules_of_seat old accepts) (sees number bytes) old state e up h
+pub see_settles : (accepts : Signing) (old : Seated) (number : ℕ) (bytes : List ℕ) (mid state : Member) (e : Ended) → old.up ≡ true → Becomes (called (rules_for old.terms accepts) old.state (sees number bytes)) mid e
+    → state ≡ cond (has_fallen e) (fresh []) mid → Behaves (rules_of_seat old accepts) (sees number bytes) old (seat_with old state e) e
+see_settles accepts old number bytes mid state e up h left = settles (rules_of_seat old accepts) (sees number bytes) old mid state e up h left
 
 pub see_at : (accepts : Signing) (old : Seated) (number : ℕ) (bytes : List ℕ) (answer : Result Seen SeeRefusal) → old.up ≡ true → Sees (see_answer (rules_for old.terms accepts) old.state number bytes) answer
     → Sees (see_said (rules_of_seat old accepts) old number bytes) answer

@@ -1,5 +1,5 @@
 -- The member after an answer.
-use Rattle.std.proofs.Common.{◌≡◌, ℕ, true, false, cond, List, Option, Some, None, is_some, refl, ap, sym, ◌∙◌, subst}
+use Rattle.std.proofs.Common.{◌≡◌, ℕ, true, false, cond, List, [], Option, Some, None, is_some, refl, ap, sym, ◌∙◌, subst}
 use Rattle.std.specs.Prelude.{Bool, not, Result, Ok, Err}
 use Rattle.wire_bcs.specs.declared.fault.WireFault.{WireFault}
 use Rattle.digest_core.specs.declared.Digest.{Digest}
@@ -10,18 +10,18 @@ use Rattle.chain_messages.specs.declared.messages.Statement.TheVariants as state
 use Rattle.protocol_spec.specs.Chain.Certificates.{Rules, read_signed}
 use Rattle.outside.specs.Lists.{Journals, KeepsJournals}
 use Rattle.journal_core.specs.declared.records.Record.{Record}
-use Rattle.answer_types.specs.declared.answers.Voted.{Voted as Sent}
-use Rattle.answer_types.specs.declared.refusals.VoteRefusal.{VoteRefusal}
-use Rattle.answer_types.specs.declared.refusals.VoteRefusal.TheVariants as no_vote
-use Rattle.answer_types.specs.declared.refusals.HoldRefusal.{HoldRefusal}
-use Rattle.answer_types.specs.declared.refusals.HoldRefusal.TheVariants as no_hold
-use Rattle.protocol_spec.specs.Member.Member.{Member, after}
+use Rattle.protocol_spec.specs.declared.answers.Voted.{Voted as Sent}
+use Rattle.protocol_spec.specs.declared.refusals.VoteRefusal.{VoteRefusal}
+use Rattle.protocol_spec.specs.declared.refusals.VoteRefusal.TheVariants as no_vote
+use Rattle.protocol_spec.specs.declared.refusals.HoldRefusal.{HoldRefusal}
+use Rattle.protocol_spec.specs.declared.refusals.HoldRefusal.TheVariants as no_hold
+use Rattle.protocol_spec.specs.Member.Member.{Member, after, fresh}
 use Rattle.protocol_spec.specs.Member.Calls.{Call, Voted, after_due, called, due, hold_answer, holds, kept_vote, vote_answer, vote_record, votes}
-use Rattle.scene_spec.specs.Terms.{Terms, rules_for}
+use Rattle.world_spec.specs.Terms.{Terms, rules_for}
 use Rattle.validator_core.specs.Answers.{sealed_as}
 use Rattle.validator_core.specs.Calls.{Holds, Votes, hold_said, vote_said}
 use Rattle.validator_core.specs.Seats.{Becomes, Behaves, Ended, Journaled, Keeps, answered, fell, has_fallen}
-use Rattle.scene_spec.specs.Seats.{Seated, due_at, rules_of_seat}
+use Rattle.world_spec.specs.Seats.{Seated, due_at, rules_of_seat}
 
 abbrev pub Signing : Type 0
 Signing = Signer → List ℕ → Digest → Bool
@@ -30,12 +30,12 @@ Signing = Signer → List ℕ → Digest → Bool
 abbrev pub seat_with : Seated → Member → Ended → Seated
 seat_with old state e = record old { state = state; up = not (has_fallen e) }
 
-pub settles : (r : Rules) (call : Call) (old : Seated) (state : Member) (e : Ended) → old.up ≡ true → Becomes (called r old.state call) state e → Behaves r call old (seat_with old state e) e
-settles r call old state answered up is =
-    ap (λ (s : Member). record old { state = s; up = true }) is
+pub settles : (r : Rules) (call : Call) (old : Seated) (mid state : Member) (e : Ended) → old.up ≡ true → Becomes (called r old.state call) mid e → state ≡ cond (has_fallen e) (fresh []) mid → Behaves r call old (seat_with old state e) e
+settles r call old mid state answered up is left =
+    ap (λ (s : Member). record old { state = s; up = true }) (left ∙ is)
     ∙ ap (λ (b : Bool). record old { state = called r old.state call; up = b }) (sym up)
     ∙ ap (λ (b : Bool). cond b (record old { state = called r old.state call }) old) (sym up)
-settles r call old state fell up is = record { member = refl; terms = refl; up = refl }
+settles r call old mid state fell up is left = ap (λ (s : Member). record old { state = s; up = false }) left
 
 -- ---- votes: the terms play no part
 
@@ -56,10 +56,10 @@ same_called : (accepts : Signing) (terms : Terms) (bytes : List ℕ) (m : Member
 unfolding due vote_answer
 same_called accepts terms bytes m = same_vote (sealed_as accepts) (rules_for terms accepts) m (read_signed bytes) (vote_answer (sealed_as accepts) m bytes)
 
-pub vote_settles : (accepts : Signing) (old : Seated) (bytes : List ℕ) (state : Member) (e : Ended) → old.up ≡ true → Becomes (called (sealed_as accepts) old.state (votes bytes)) state e
-    → Behaves (rules_of_seat old accepts) (votes bytes) old (seat_with old state e) e
-vote_settles accepts old bytes state e up h =
-    settles (rules_of_seat old accepts) (votes bytes) old state e up (subst (λ (next : Member). Becomes next state e) (same_called accepts old.terms bytes old.state) h)
+pub vote_settles : (accepts : Signing) (old : Seated) (bytes : List ℕ) (mid state : Member) (e : Ended) → old.up ≡ true → Becomes (called (sealed_as accepts) old.state (votes bytes)) mid e
+    → state ≡ cond (has_fallen e) (fresh []) mid → Behaves (rules_of_seat old accepts) (votes bytes) old (seat_with old state e) e
+vote_settles accepts old bytes mid state e up h left =
+    settles (rules_of_seat old accepts) (votes bytes) old mid state e up (subst (λ (next : Member). Becomes next mid e) (same_called accepts old.terms bytes old.state) h) left
 
 pub vote_at : (accepts : Signing) (old : Seated) (bytes : List ℕ) (answer : Result Sent VoteRefusal) → old.up ≡ true → Votes accepts old.member (vote_answer (sealed_as accepts) old.state bytes) answer
     → Votes accepts old.member (vote_said (rules_of_seat old accepts) old bytes) answer
@@ -83,9 +83,9 @@ vote_owed_at accepts old bytes up h = ap (λ (b : Bool). is_some (cond b (due (r
 
 -- ---- certificates
 
-pub hold_settles : (accepts : Signing) (old : Seated) (bytes : List ℕ) (state : Member) (e : Ended) → old.up ≡ true → Becomes (called (rules_for old.terms accepts) old.state (holds bytes)) state e
-    → Behaves (rules_of_seat old accepts) (holds bytes) old (seat_with old state e) e
-hold_settles accepts old bytes state e up h = settles (rules_of_seat old accepts) (holds bytes) old state e up h
+pub hold_settles : (accepts : Signing) (old : Seated) (bytes : List ℕ) (mid state : Member) (e : Ended) → old.up ≡ true → Becomes (called (rules_for old.terms accepts) old.state (holds bytes)) mid e
+    → state ≡ cond (has_fallen e) (fresh []) mid → Behaves (rules_of_seat old accepts) (holds bytes) old (seat_with old state e) e
+hold_settles accepts old bytes mid state e up h left = settles (rules_of_seat old accepts) (holds bytes) old mid state e up h left
 
 pub hold_at : (accepts : Signing) (old : Seated) (bytes : List ℕ) (answer : Result Bool HoldRefusal) → old.up ≡ true → Holds (hold_answer (rules_for old.terms accepts) old.state bytes) answer
     → Holds (hold_said (rules_of_seat old accepts) old bytes) answer

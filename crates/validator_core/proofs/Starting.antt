@@ -3,11 +3,11 @@ use Rattle.std.proofs.Common.{◌≡◌, ◌+◌, ℕ, List, ◌∷◌, ap}
 use Rattle.std.specs.Prelude.{Ok, Err}
 use Rattle.protocol_spec.specs.Chain.Certificates.{Rules}
 use Rattle.protocol_spec.specs.Chain.Words.{and_then}
-use Rattle.answer_types.specs.declared.refusals.StartRefusal.{StartRefusal}
-use Rattle.answer_types.specs.declared.refusals.StartRefusal.TheVariants as no_start
+use Rattle.protocol_spec.specs.declared.refusals.StartRefusal.{StartRefusal}
+use Rattle.protocol_spec.specs.declared.refusals.StartRefusal.TheVariants as no_start
 use Rattle.protocol_spec.specs.Member.Member.{Member}
 use Rattle.validator_core.specs.Starts.{StateAs}
-use Rattle.scene_spec.specs.Starts.{read_record, started_from, taken_at}
+use Rattle.world_spec.specs.Starts.{read_record, started_from, taken_at}
 
 pub taken_on : (r : Rules) (m next : Member) (place : ℕ) (bytes : List ℕ) (kept : List (List ℕ)) → taken_at r m place (read_record bytes) ≡ Ok next → started_from r m place (bytes ∷ kept) ≡ started_from r next (place + 1) kept
 taken_on r m next place bytes kept e = ap (λ x. and_then x (λ (n : Member). started_from r n (place + 1) kept)) e

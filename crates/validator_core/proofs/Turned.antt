@@ -5,25 +5,25 @@ use Rattle.digest_core.specs.declared.Digest.{Digest}
 use Rattle.outside.specs.Lists.{Journals, KeepsJournals}
 use Rattle.journal_core.specs.declared.records.Record.{Record}
 use Rattle.journal_core.specs.declared.records.Record.TheVariants as record_as
-use Rattle.answer_types.specs.declared.refusals.TurnRefusal.{TurnRefusal}
-use Rattle.answer_types.specs.declared.refusals.TurnRefusal.TheVariants as no_turn
+use Rattle.protocol_spec.specs.declared.refusals.TurnRefusal.{TurnRefusal}
+use Rattle.protocol_spec.specs.declared.refusals.TurnRefusal.TheVariants as no_turn
 use Rattle.protocol_spec.specs.Chain.Words.{first_of, first_some, unless_refused, where_true}
 use Rattle.protocol_spec.specs.Member.Admission.{Admitted}
 use Rattle.protocol_spec.specs.Member.Checkpoints.{is_done}
-use Rattle.protocol_spec.specs.Member.Member.{Member, after, built}
+use Rattle.protocol_spec.specs.Member.Member.{Member, after, built, fresh}
 use Rattle.protocol_spec.specs.Member.Calls.{after_due, called, due, not_done, reverted, turn_answer, turn_cases, turn_record, turns}
 use Rattle.protocol_spec.specs.Member.Votes.{Cast}
 use Rattle.epoch_turn.specs.Chains.{waiting_one}
 use Rattle.validator_core.specs.Answers.{bare}
 use Rattle.validator_core.specs.Calls.{Turns, turn_ended, turn_said, unkept_turn}
 use Rattle.validator_core.specs.Courses.{Coursed, turned_in}
-use Rattle.validator_core.specs.Seats.{Becomes, Behaves, Ended, Journaled, Keeps, answered, fell}
+use Rattle.validator_core.specs.Seats.{Becomes, Behaves, Ended, Journaled, Keeps, answered, fell, has_fallen}
 use Rattle.validator_core.specs.Sound.{member_with}
 use Rattle.validator_core.specs.Steps.{turning}
 use Rattle.validator_core.specs.declared.keeping.Unkept.{Unkept}
 use Rattle.validator_core.specs.declared.keeping.Unkept.TheVariants as unkept
-use Rattle.scene_spec.proofs.RulesAside.{turn_answer_alike, turn_called_alike, turn_due_alike}
-use Rattle.scene_spec.specs.Seats.{Seated, bare_rules, due_at}
+use Rattle.world_spec.proofs.RulesAside.{turn_answer_alike, turn_called_alike, turn_due_alike}
+use Rattle.world_spec.specs.Seats.{Seated, bare_rules, due_at}
 use Rattle.validator_core.proofs.Refusing.{free, none_stops, stop, stopped_by}
 use Rattle.validator_core.proofs.Running.{journals_same, maybe_kept}
 use Rattle.validator_core.proofs.Settling.{owed_at, seat_with, settles}
@@ -128,8 +128,8 @@ turn_not_allowed m result is bad = may_turn (first_some (turn_cases m)) (reverte
 
 -- ---- at the seat
 
-pub turn_settles : (old : Seated) (state : Member) (e : Ended) → old.up ≡ true → Becomes (called bare old.state turns) state e → Behaves (bare_rules old) turns old (seat_with old state e) e
-turn_settles old state e up h = settles (bare_rules old) turns old state e up (subst (λ (next : Member). Becomes next state e) (turn_called_alike bare (bare_rules old) old.state) h)
+pub turn_settles : (old : Seated) (mid state : Member) (e : Ended) → old.up ≡ true → Becomes (called bare old.state turns) mid e → state ≡ cond (has_fallen e) (fresh []) mid → Behaves (bare_rules old) turns old (seat_with old state e) e
+turn_settles old mid state e up h left = settles (bare_rules old) turns old mid state e up (subst (λ (next : Member). Becomes next mid e) (turn_called_alike bare (bare_rules old) old.state) h) left
 
 pub turn_at : (old : Seated) (answer : Result (List Digest) TurnRefusal) → old.up ≡ true → Turns (turn_answer bare old.state) answer → Turns (turn_said (bare_rules old) old) answer
 turn_at old answer up h =

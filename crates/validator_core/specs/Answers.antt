@@ -12,21 +12,21 @@ use Rattle.journal_core.specs.declared.records.Record.{Record}
 use Rattle.journal_core.specs.declared.records.Record.TheVariants as record_as
 use Rattle.protocol_spec.specs.Member.Checkpoints.{held_of}
 use Rattle.protocol_spec.specs.Chain.Words.{first_of, first_some, where_true}
-use Rattle.answer_types.specs.declared.refusals.VoteRefusal.{VoteRefusal}
-use Rattle.answer_types.specs.declared.refusals.VoteRefusal.TheVariants as no_vote
-use Rattle.answer_types.specs.declared.refusals.HoldRefusal.{HoldRefusal}
-use Rattle.answer_types.specs.declared.refusals.HoldRefusal.TheVariants as no_hold
+use Rattle.protocol_spec.specs.declared.refusals.VoteRefusal.{VoteRefusal}
+use Rattle.protocol_spec.specs.declared.refusals.VoteRefusal.TheVariants as no_vote
+use Rattle.protocol_spec.specs.declared.refusals.HoldRefusal.{HoldRefusal}
+use Rattle.protocol_spec.specs.declared.refusals.HoldRefusal.TheVariants as no_hold
 use Rattle.protocol_spec.specs.Member.Votes.{locked}
 use Rattle.protocol_spec.specs.Member.Member.{Member, vote_for}
-use Rattle.answer_types.specs.declared.refusals.RunRefusal.{RunRefusal}
-use Rattle.answer_types.specs.declared.refusals.RunRefusal.TheVariants as no_run
-use Rattle.answer_types.specs.declared.refusals.CloseRefusal.{CloseRefusal}
-use Rattle.answer_types.specs.declared.refusals.CloseRefusal.TheVariants as no_close
+use Rattle.protocol_spec.specs.declared.refusals.RunRefusal.{RunRefusal}
+use Rattle.protocol_spec.specs.declared.refusals.RunRefusal.TheVariants as no_run
+use Rattle.protocol_spec.specs.declared.refusals.CloseRefusal.{CloseRefusal}
+use Rattle.protocol_spec.specs.declared.refusals.CloseRefusal.TheVariants as no_close
 use Rattle.protocol_spec.specs.Member.Calls.{Voted, full, halted}
 use Rattle.validator_core.specs.declared.votes.Decision.{Decision}
 use Rattle.validator_core.specs.declared.holds.Holding.{Holding}
 use Rattle.validator_core.specs.declared.holds.Holding.TheVariants as holding
-use Rattle.scene_spec.specs.Terms.{Terms, rules_for}
+use Rattle.world_spec.specs.Terms.{Terms, rules_for}
 
 -- a committee of nobody
 abbrev pub no_terms : Terms

@@ -3,7 +3,7 @@ use Rattle.std.specs.Prelude.{◌≡◌, ◌≤◌, ◌+◌, ℕ, true, false, n
 use Rattle.digest_core.specs.declared.Digest.{Digest}
 use Rattle.chain_types.specs.declared.objects.Object.{Object}
 use Rattle.checkpoint_core.specs.declared.checkpoints.Checkpoint.{Checkpoint}
-use Rattle.answer_types.specs.declared.answers.Held.{Held}
+use Rattle.protocol_spec.specs.declared.answers.Held.{Held}
 use Rattle.protocol_spec.specs.Chain.Words.{Each}
 use Rattle.protocol_spec.specs.Chain.Committee.{is_quorum, weight}
 use Rattle.protocol_spec.specs.Member.Admission.{Admitted, Admission, digest_of_admitted, entered, passed_mark, since_mark}
@@ -116,9 +116,6 @@ pub record IsAdmitting (from : ℕ) (c : Course) : Type 0 where
 pub record Stays (old new : Course) : Type 0 where
   pub writers : new.admission.writers ≡ old.admission.writers
   pub opening : HasOpening old → HasOpening new
-
-abbrev pub Forgets : Course → Type 0
-Forgets c = HasOpening c
 
 -- ---- what a call makes of it
 

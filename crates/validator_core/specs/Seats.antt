@@ -1,13 +1,13 @@
 -- A member at its seat: its state, and whether it is up. What a call does to it and to its records.
-use Rattle.std.specs.Prelude.{◌≡◌, ◌⊎◌, ℕ, Bool, true, false, Option, Some, None, Result, Ok, Err}
+use Rattle.std.specs.Prelude.{◌≡◌, ◌⊎◌, ℕ, Bool, true, false, [], Option, Some, None, Result, Ok, Err}
 use Rattle.journal_core.specs.declared.records.Record.{Record}
 use Rattle.journal_core.specs.Records as journals
 use Rattle.outside.specs.Lists.{Journals, AddsRecord, KeepsJournals}
 use Rattle.protocol_spec.specs.Chain.Certificates.{Rules}
-use Rattle.protocol_spec.specs.Member.Member.{Member}
+use Rattle.protocol_spec.specs.Member.Member.{Member, fresh}
 use Rattle.protocol_spec.specs.Member.Calls.{Call, due}
 use Rattle.validator_core.specs.declared.keeping.Unkept.{Unkept}
-use Rattle.scene_spec.specs.Seats.{Seated, behind}
+use Rattle.world_spec.specs.Seats.{Seated, behind}
 
 -- ---- how a call ended
 
@@ -20,11 +20,12 @@ abbrev pub has_fallen : Ended → Bool
 has_fallen answered = false
 has_fallen fell = true
 
--- a member that fell
-pub record Fell (old new : Seated) : Type 0 where
-  pub member : new.member ≡ old.member
-  pub terms : new.terms ≡ old.terms
-  pub up : new.up ≡ false
+-- a member that fell: it is down, and nothing is left of its state
+abbrev pub fallen : Seated → Seated
+fallen seat = record seat { up = false; state = fresh [] }
+
+abbrev pub Fell : Seated → Seated → Type 0
+Fell old new = new ≡ fallen old
 
 -- the state after a call that answered
 abbrev pub Becomes : Member → Member → Ended → Type 0

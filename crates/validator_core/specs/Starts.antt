@@ -1,10 +1,10 @@
 -- The start of a member from the records that it kept. Source: this profile.
 use Rattle.std.specs.Prelude.{◌≡◌, ℕ, true, Result, Ok, Err}
-use Rattle.answer_types.specs.declared.refusals.StartRefusal.{StartRefusal}
-use Rattle.answer_types.specs.declared.refusals.StartRefusal.TheVariants as no_start
+use Rattle.protocol_spec.specs.declared.refusals.StartRefusal.{StartRefusal}
+use Rattle.protocol_spec.specs.declared.refusals.StartRefusal.TheVariants as no_start
 use Rattle.protocol_spec.specs.Member.Member.{Member}
-use Rattle.scene_spec.specs.Terms.{Terms}
-use Rattle.scene_spec.specs.Seats.{Seated}
+use Rattle.world_spec.specs.Terms.{Terms}
+use Rattle.world_spec.specs.Seats.{Seated}
 
 -- a member that is up in the state that is said, or the refusal; running out of memory says nothing
 abbrev pub StateAs : Result Member StartRefusal → Member → Result (Unit {0}) StartRefusal → Type 0

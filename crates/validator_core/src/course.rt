@@ -8,10 +8,9 @@ ghost use Rattle.protocol_spec.specs.Chain.Shape.{shape_fault};
 ghost use Rattle.protocol_spec.specs.Member.Admission.{digest_of_admitted};
 ghost use Rattle.protocol_spec.specs.Member.Checkpoints.{held_of};
 ghost use Rattle.protocol_spec.specs.Member.Rounds.{left, rounds};
-ghost use Rattle.scene_spec.specs.Starts.{AreApart};
+ghost use Rattle.world_spec.specs.Starts.{AreApart};
 ghost use Rattle.validator_core.specs.Courses.{HasOpening, IsAdmitting, IsSound, IsUnbuilt, Stays, begun, built_in, coursed, newly_built, ran, with_held};
 
-use answer_types::{Held, Left};
 use chain_types::Object;
 use checkpoint_core::HashedCheckpoint;
 use dag_pool::Gate;
@@ -19,6 +18,7 @@ use digest_core::Digest;
 use effects_core::HashedEffects;
 use epoch_turn::{Chain, EndCount, tell};
 use exec_plan::Waiting;
+use protocol_spec::{Held, Left};
 use std::alloc::Global;
 use std::mem::replace;
 use std::thread::Threads;
@@ -153,7 +153,7 @@ impl Course {
         )
     }
 
-    /// Likewise, by 1 to 16 workers in threads. The gate is notified of each execution.
+    /// Likewise, by 1 to 16 workers in threads. The gate is notified of each execution, which no clause says.
     fn execute_pooled<R: Threads + Sync, G: Gate + Sync>(
         &mut self,
         rt: &R,
@@ -197,7 +197,7 @@ impl Course {
         Ok((effects, built))
     }
 
-    /// Likewise, by 1 to 16 workers in threads. The gate is notified of each execution.
+    /// Likewise, by 1 to 16 workers in threads. The gate is notified of each execution, which no clause says.
     pub(crate) fn run_pooled<R: Threads + Sync, G: Gate + Sync>(
         &mut self,
         rt: &R,

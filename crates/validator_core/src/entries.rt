@@ -7,15 +7,15 @@ ghost use Rattle.chain_messages.specs.declared.messages.Entry.TheVariants as rea
 ghost use Rattle.chain_messages.specs.declared.messages.Statement.TheVariants as statements;
 ghost use Rattle.protocol_spec.specs.Chain.Certificates.{accepts_statement};
 ghost use Rattle.protocol_spec.specs.Member.Sequence.{what_of, what_read, what_stated};
-ghost use Rattle.scene_spec.specs.Terms.{rules_for};
+ghost use Rattle.world_spec.specs.Terms.{rules_for};
 ghost use Rattle.validator_core.specs.Entries.{MayArrive, what_as};
 ghost use Rattle.validator_core.specs.Limits.{terms_at};
 
 use crate::state::State;
-use answer_types::{Held, Ignore};
 use cert_rules::check_cert;
 use chain_messages::{Certificate, Entry, Sealed, Statement, decode_entry_with, encode_statement};
 use chain_types::{CertRefusal, encoded_digest};
+use protocol_spec::{Held, Ignore};
 use quorum_core::{Committee, Sealer, Signer};
 use wire_bcs::{OutOfMemory, Unread};
 

@@ -5,8 +5,8 @@ ghost use Rattle.outside.specs.Causes.{Rose};
 ghost use Rattle.journal_core.specs.declared.records.Record.TheVariants as record_as;
 ghost use Rattle.protocol_spec.specs.Member.Member.{fork_of};
 ghost use Rattle.protocol_spec.specs.Member.Calls.{called, close_answer, closes, due, ran_record, record_limit, run_answer, runs};
-ghost use Rattle.answer_types.specs.declared.refusals.CloseRefusal.TheVariants as no_close;
-ghost use Rattle.answer_types.specs.declared.refusals.RunRefusal.TheVariants as no_run;
+ghost use Rattle.protocol_spec.specs.declared.refusals.CloseRefusal.TheVariants as no_close;
+ghost use Rattle.protocol_spec.specs.declared.refusals.RunRefusal.TheVariants as no_run;
 ghost use Rattle.validator_core.specs.Answers.{bare};
 ghost use Rattle.validator_core.specs.Steps.{closing, counted_where, items_of};
 ghost use Rattle.validator_core.specs.declared.keeping.Unkept.TheVariants as unkept;
@@ -14,12 +14,13 @@ ghost use Rattle.validator_core.specs.Calls.{Closes, Runs, close_ended, run_ende
 ghost use Rattle.validator_core.specs.Seats.{Appended, AppendedWhere, Becomes, Journaled, has_fallen};
 
 use crate::keeping::{Unkept, append};
-use crate::{State, ran_record};
-use answer_types::{CloseRefusal, Ran, RunRefusal};
+use crate::runs::ran_record;
+use crate::state::State;
 use dag_pool::Gate;
 use effects_core::HashedEffects;
 use journal_core::Record;
 use outside::Keeper;
+use protocol_spec::{CloseRefusal, Ran, RunRefusal};
 use std::thread::Threads;
 use wire_bcs::OutOfMemory;
 

@@ -5,26 +5,26 @@ ghost use Rattle.chain_types.specs.Transactions.{transaction};
 ghost use Rattle.chain_types.specs.Digests.{transaction_digest};
 ghost use Rattle.protocol_spec.specs.Chain.Words.{unless_refused};
 ghost use Rattle.protocol_spec.specs.Member.Checkpoints.{held_of};
-ghost use Rattle.answer_types.specs.declared.refusals.HoldRefusal.TheVariants as no_hold;
+ghost use Rattle.protocol_spec.specs.declared.refusals.HoldRefusal.TheVariants as no_hold;
 ghost use Rattle.chain_messages.specs.Messages.{certificate};
 ghost use Rattle.protocol_spec.specs.Member.Member.{fork_of};
 ghost use Rattle.protocol_spec.specs.Member.Calls.{due, hold_answer, hold_certificate, hold_stopped, holds, new_hold, record_limit};
 ghost use Rattle.validator_core.specs.Answers.{HoldDue, HoldsAs, IsHeldAs, holding_in};
-ghost use Rattle.scene_spec.specs.Terms.{rules_for};
+ghost use Rattle.world_spec.specs.Terms.{rules_for};
 ghost use Rattle.validator_core.specs.Limits.{terms_at};
 
 use crate::state::State;
-use answer_types::HoldRefusal;
 use cert_rules::check_cert;
 use chain_messages::{Certificate, decode_certificate_with};
 use chain_types::{CertRefusal, ObjectKey, encoded_digest, owned_keys};
 use digest_core::Digest;
+use protocol_spec::HoldRefusal;
 use quorum_core::{Committee, Sealer};
 use wire_bcs::Unread;
 
 /// What becomes of a certificate that is not refused before it is kept.
 #[derive(Clone, Copy, Debug, PartialEq, Eq)]
-pub enum Holding {
+pub(crate) enum Holding {
     /// Its transaction's certificate is held already.
     Again,
     /// It is to be held, under this digest of its transaction.
@@ -86,7 +86,7 @@ impl State {
     }
 
     /// What becomes of a certificate of the transaction of this digest. Order of the refusals: `WrongEpoch`, `Closed`, `Cert`.
-    pub fn hold_on<S: Sealer>(
+    pub(crate) fn hold_on<S: Sealer>(
         &self,
         committee: &Committee,
         sealer: &S,
@@ -114,7 +114,7 @@ impl State {
     /// The certificate that the bytes encode, and what becomes of it. Order of the refusals: `Halted`, `Full`,
     /// `Malformed`, then those of [`State::hold_on`].
     #[tactic(auto, unfolding(protocol_spec::specs::Member::Calls::hold_answer, protocol_spec::specs::Member::Calls::due, protocol_spec::specs::Chain::Certificates::read_certificate, chain_messages::specs::Messages::certificate))]
-    pub fn hold<S: Sealer>(
+    pub(crate) fn hold<S: Sealer>(
         &self,
         committee: &Committee,
         sealer: &S,

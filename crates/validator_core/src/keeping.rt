@@ -10,9 +10,9 @@ ghost use Rattle.validator_core.specs.declared.keeping.Unkept.TheVariants as unk
 ghost use Rattle.validator_core.specs.Seats.{Appended};
 ghost use Rattle.validator_core.specs.Calls.{unkept_close, unkept_hold, unkept_run, unkept_see, unkept_turn, unkept_vote};
 
-use answer_types::{CloseRefusal, HoldRefusal, RunRefusal, SeeRefusal, TurnRefusal, VoteRefusal};
 use journal_core::{Record, encode_record, encode_record_with, encode_see};
 use outside::{Keeper, OutFault};
+use protocol_spec::{CloseRefusal, HoldRefusal, RunRefusal, SeeRefusal, TurnRefusal, VoteRefusal};
 use std::alloc::Global;
 
 /// Why a record was not kept.

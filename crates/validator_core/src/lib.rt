@@ -7,7 +7,7 @@
 //! sequence, runs what it holds in rounds, builds a checkpoint as soon as all that a cut has is done, and closes its
 //! epoch, and turns to the next one.
 //!
-//! Within, a [`State`] has the votes given in the epoch, and a `Course`: its versions, the certificates held, the
+//! Within, a `State` has the votes given in the epoch, and a `Course`: its versions, the certificates held, the
 //! sequence as it was seen, and the checkpoints. A call is decided, its record is appended, and the state takes it before
 //! the call answers; a run's effects stand when its record is appended. A start takes the records in the same way.
 #![tactic(auto)]
@@ -31,12 +31,8 @@ mod turning;
 mod validator;
 mod votes;
 
-pub use answer_types::{
+pub use protocol_spec::{
     AckRefusal, CloseRefusal, EndRefusal, HoldRefusal, Ran, RunRefusal, StartRefusal, VoteRefusal,
     Voted,
 };
-pub use holds::Holding;
-pub use runs::ran_record;
-pub use state::State;
 pub use validator::Validator;
-pub use votes::Decision;

@@ -3,11 +3,12 @@
 ghost use Rattle.std.specs.Prelude.{◌≡◌, option_copied, option_map};
 ghost use Rattle.protocol_spec.specs.Member.Versions.{Execution, execution_of, live, object_in, version_at, versions as versions_of};
 
-use crate::{State, Validator};
-use answer_types::Held;
+use crate::state::State;
+use crate::validator::Validator;
 use chain_types::{HashedObject, Object, ObjectId, ObjectKey};
 use digest_core::Digest;
 use effects_core::Effects;
+use protocol_spec::Held;
 
 impl State {
     /// The object of a held version, with its digest. Takes no memory.

@@ -1,7 +1,7 @@
 //! The end of a member's epoch, and the beginning of the next one.
 
 ghost use Rattle.std.specs.Prelude.{◌≡◌, ◌+◌, [], IfOk, IfSome, OnOk};
-ghost use Rattle.validator_core.specs.Courses.{IsSound, coursed, reverted_in, turned_in};
+ghost use Rattle.validator_core.specs.Courses.{IsSound, begun, coursed, reverted_in, turned_in};
 
 use crate::course::Course;
 use digest_core::Digest;
@@ -26,8 +26,9 @@ fn next_of(epoch: u64) -> Option<u64>
 
 impl Course {
     /// Epoch 0 of a member that has nothing and opened with nothing, under this limit of writers. Takes no memory.
-    fn empty(alloc: Global, writers: Option<u32>) -> Course
+    pub(crate) fn empty(alloc: Global, writers: Option<u32>) -> Course
         ensures sound { IsSound result }
+        ensures value { coursed result ≡ begun [] writers }
         ensures limit { result.admission.writers ≡ writers }
         ensures seen { result.seen ≡ 0 }
     {

@@ -13,19 +13,19 @@ ghost use Rattle.protocol_spec.specs.Member.Calls.{ran_items, record_limit, run_
 ghost use Rattle.protocol_spec.specs.Member.Member.{after, with_rounds};
 ghost use Rattle.protocol_spec.specs.Member.Replay.{is_allowed, ran_item_eq};
 ghost use Rattle.validator_core.specs.Answers.{OnTaken, bare, sealed_as};
-ghost use Rattle.scene_spec.specs.Terms.{rules_for};
+ghost use Rattle.world_spec.specs.Terms.{rules_for};
 ghost use Rattle.validator_core.specs.Limits.{terms_at};
 ghost use Rattle.validator_core.specs.Steps.{closing, counted, holding, voted};
 
 use crate::holds::Holding;
 use crate::runs::ran_items;
 use crate::state::State;
-use answer_types::{Held, HoldRefusal, VoteRefusal};
 use cert_rules::same_origins;
 use chain_messages::Certificate;
 use chain_types::{Transaction, tx_digest};
 use digest_core::Digest;
 use journal_core::{RanItem, Record};
+use protocol_spec::{Held, HoldRefusal, VoteRefusal};
 use quorum_core::{Committee, Sealer};
 use wire_bcs::{OutOfMemory, Seq};
 
@@ -221,7 +221,7 @@ impl State {
     /// Takes a record that was read back, if a call would append it in this state; else false. If false is answered or memory is refused the
     /// state is not to be used.
     #[tactic(auto, unfolding(protocol_spec::specs::Member::Replay::is_allowed, protocol_spec::specs::Member::Calls::run_answer, protocol_spec::specs::Member::Calls::close_answer, protocol_spec::specs::Member::Calls::turn_answer, protocol_spec::specs::Member::Member::after, journal_core::specs::Records::journal_record))]
-    pub fn take<S: Sealer>(
+    pub(crate) fn take<S: Sealer>(
         &mut self,
         committee: &Committee,
         sealer: &S,

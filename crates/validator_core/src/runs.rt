@@ -5,17 +5,17 @@ ghost use Rattle.journal_core.specs.Records as journals;
 ghost use Rattle.protocol_spec.specs.Chain.Words.{unless_refused};
 ghost use Rattle.protocol_spec.specs.Member.Calls.{ran_as, ran_items, ran_record, record_limit};
 ghost use Rattle.protocol_spec.specs.Member.Member.{books, fork_of, with_rounds};
-ghost use Rattle.answer_types.specs.declared.refusals.CloseRefusal.TheVariants as no_close;
-ghost use Rattle.answer_types.specs.declared.refusals.RunRefusal.TheVariants as no_run;
+ghost use Rattle.protocol_spec.specs.declared.refusals.CloseRefusal.TheVariants as no_close;
+ghost use Rattle.protocol_spec.specs.declared.refusals.RunRefusal.TheVariants as no_run;
 ghost use Rattle.protocol_spec.specs.Member.Rounds.{rounds};
 ghost use Rattle.validator_core.specs.Answers.{close_stopped, run_stopped};
 ghost use Rattle.validator_core.specs.Steps.{item_of, items_after, items_of};
 
 use crate::state::State;
-use answer_types::{CloseRefusal, Ran, RunRefusal};
 use dag_pool::Gate;
 use effects_core::HashedEffects;
 use journal_core::{RanItem, Record};
+use protocol_spec::{CloseRefusal, Ran, RunRefusal};
 use std::alloc::Global;
 use std::thread::Threads;
 use wire_bcs::{OutOfMemory, Seq};
@@ -37,7 +37,7 @@ fn item_of(effects: &HashedEffects) -> RanItem
 fn collect_items(alloc: Global, effects: &[HashedEffects]) -> Result<Seq<RanItem>, OutOfMemory>
     ensures { IfOk result (λ items. items ≡ items_after [] effects.now) }
 {
-    let mut items = Seq::new(alloc);
+    let mut items = Seq::with_room(alloc, effects.len() as u64)?;
     let mut rest = effects;
     while let [one, after @ ..] = rest {
         items.push(item_of(one))?;
@@ -60,7 +60,10 @@ pub(crate) fn ran_items(
 /// The record of a run that executed transactions with these effects, in order: none if it executed none. A list
 /// of 2^31 items counts as running out of memory.
 #[tactic(auto, using(crate::proofs::Spelled::ran_short))]
-pub fn ran_record(alloc: Global, effects: &[HashedEffects]) -> Result<Option<Record>, OutOfMemory>
+pub(crate) fn ran_record(
+    alloc: Global,
+    effects: &[HashedEffects],
+) -> Result<Option<Record>, OutOfMemory>
     ensures value { IfOk result (λ r. r ≡ ran_record (items_of effects.now)) }
     ensures short { IfOk result (λ r. IfSome r journals.journal_record.short) }
 {
@@ -76,9 +79,9 @@ pub fn ran_record(alloc: Global, effects: &[HashedEffects]) -> Result<Option<Rec
 
 impl State {
     /// Runs, by 1 to 16 workers in threads: executes all held certificates that are ready, round after round, and says
-    /// what is left (Sui Lutris). The gate is notified of each execution. The items of the record that is due are those of the
-    /// effects. If memory is refused the state is not to be used.
-    pub fn run<R: Threads + Sync, G: Gate + Sync>(
+    /// what is left (Sui Lutris). The gate is notified of each execution, which no clause says. The items of the record
+    /// that is due are those of the effects. If memory is refused the state is not to be used.
+    pub(crate) fn run<R: Threads + Sync, G: Gate + Sync>(
         &mut self,
         rt: &R,
         workers: u32,
@@ -99,7 +102,7 @@ impl State {
     }
 
     /// Whether a run may be asked for. Order of the refusals: `Halted`, `Full`. Takes no memory.
-    pub fn check_run(&self) -> Result<(), RunRefusal>
+    pub(crate) fn check_run(&self) -> Result<(), RunRefusal>
         ensures value { result ≡ unless_refused (run_stopped self.now.member) tt }
         ensures room { IfOk result (λ _. nat_le record_limit self.now.member.records ≡ false) }
         ensures calm { IfOk result (λ _. fork_of self.now.member ≡ None) }
@@ -116,7 +119,7 @@ impl State {
     }
 
     /// Whether a close may be asked for. Order of the refusals: `Halted`, `Full`. Takes no memory.
-    pub fn check_close(&self) -> Result<(), CloseRefusal>
+    pub(crate) fn check_close(&self) -> Result<(), CloseRefusal>
         ensures value { result ≡ unless_refused (close_stopped self.now.member) tt }
         ensures room { IfOk result (λ _. nat_le record_limit self.now.member.records ≡ false) }
         ensures calm { IfOk result (λ _. fork_of self.now.member ≡ None) }

@@ -5,16 +5,16 @@ ghost use Rattle.outside.specs.Causes.{Rose};
 ghost use Rattle.protocol_spec.specs.Chain.Words.{first_some, unless_refused};
 ghost use Rattle.protocol_spec.specs.Member.Member.{fork_of};
 ghost use Rattle.protocol_spec.specs.Member.Calls.{called, due, record_limit, see_answer, see_cases, sees};
-ghost use Rattle.answer_types.specs.declared.refusals.SeeRefusal.TheVariants as no_see;
-ghost use Rattle.scene_spec.specs.Terms.{rules_for};
+ghost use Rattle.protocol_spec.specs.declared.refusals.SeeRefusal.TheVariants as no_see;
+ghost use Rattle.world_spec.specs.Terms.{rules_for};
 ghost use Rattle.validator_core.specs.Calls.{Sees, see_ended};
 ghost use Rattle.validator_core.specs.Limits.{terms_at};
 ghost use Rattle.validator_core.specs.Seats.{Becomes, Journaled, has_fallen};
 
-use crate::State;
 use crate::keeping::append_see;
-use answer_types::{SeeRefusal, Seen};
+use crate::state::State;
 use outside::Keeper;
+use protocol_spec::{SeeRefusal, Seen};
 use quorum_core::{Committee, Sealer};
 use vote_rules::Fork;
 

@@ -1,14 +1,14 @@
 //! The start of a member.
 
 ghost use Rattle.std.specs.Prelude.{◌≡◌, ◌<◌, ◌^◌, length};
-ghost use Rattle.scene_spec.specs.Terms.{rules_for};
+ghost use Rattle.world_spec.specs.Terms.{rules_for};
 ghost use Rattle.validator_core.specs.Limits.{terms_at};
 ghost use Rattle.validator_core.specs.Starts.{StateAs};
-ghost use Rattle.scene_spec.specs.Starts.{read_record, started_from, taken_at};
+ghost use Rattle.world_spec.specs.Starts.{read_record, started_from, taken_at};
 
-use crate::State;
-use answer_types::StartRefusal;
+use crate::state::State;
 use journal_core::decode_record;
+use protocol_spec::StartRefusal;
 use quorum_core::{Committee, Sealer};
 use wire_bcs::{Seq, Unread};
 

@@ -1,6 +1,6 @@
 //! The state, and the records that it takes.
 
-ghost use Rattle.std.specs.Prelude.{◌≡◌, ◌<◌, ◌≤◌, IfOk, IfSome, OnOk, None, false, true, find, is_some, option_copied, option_map, nat_le, length, map, slice_get};
+ghost use Rattle.std.specs.Prelude.{◌≡◌, ◌<◌, ◌≤◌, [], if◌then◌else◌, IfOk, IfSome, OnOk, None, false, true, find, is_some, option_copied, option_map, nat_le, length, map, slice_get};
 ghost use Rattle.checkpoint_core.specs.Checkpoints.{transactions_in};
 ghost use Rattle.chain_types.specs.Digests.{consumed_keys, transaction_digest};
 ghost use Rattle.quorum_core.specs.Committee.{is_among};
@@ -15,8 +15,8 @@ ghost use Rattle.protocol_spec.specs.Member.Sequence.{seen_what};
 ghost use Rattle.protocol_spec.specs.Member.Versions.{Version, object_in, version_at, versions};
 ghost use Rattle.protocol_spec.specs.Member.Votes.{Cast, locked, vote_origins, vote_refusal};
 ghost use Rattle.protocol_spec.specs.Member.Rounds.{left, rounds};
-ghost use Rattle.scene_spec.specs.Starts.{AreApart};
-ghost use Rattle.scene_spec.specs.Terms.{rules_for};
+ghost use Rattle.world_spec.specs.Starts.{AreApart};
+ghost use Rattle.world_spec.specs.Terms.{rules_for};
 ghost use Rattle.validator_core.specs.Entries.{MayArrive, behind_entry, what_as};
 ghost use Rattle.validator_core.specs.Limits.{Accepting, terms_at};
 ghost use Rattle.validator_core.specs.Opened.{opening_objects};
@@ -24,17 +24,17 @@ ghost use Rattle.epoch_turn.specs.Dues.{unordered};
 ghost use Rattle.validator_core.specs.Steps.{closing, counted, holding, items_of, turning, voted};
 ghost use Rattle.vote_rules.specs.Decide.{Decides};
 ghost use Rattle.vote_rules.specs.Holders.{sides};
-ghost use Rattle.answer_types.specs.declared.answers.Held.{Held as H};
+ghost use Rattle.protocol_spec.specs.declared.answers.Held.{Held as H};
 
 use crate::course::Course;
 use crate::entries::Arrival;
-use answer_types::{Held, Left, Seen};
 use chain_types::{DecideRefusal, Object, ObjectKey, Transaction};
 use checkpoint_core::{Checkpoint, HashedCheckpoint};
 use dag_pool::Gate;
 use digest_core::Digest;
 use effects_core::HashedEffects;
 use epoch_turn::{first_unordered, ordered_on};
+use protocol_spec::{Held, Left, Seen};
 use quorum_core::Committee;
 use std::alloc::Global;
 use std::marker::Model;
@@ -49,7 +49,7 @@ const RECORD_LIMIT: u64 = 4_194_303;
 /// What a member has in the present epoch. Contracts see the definitions' record of it, beside the limit of writers of
 /// its sequences.
 #[derive(Drop)]
-pub struct State {
+pub(crate) struct State {
     records: u64,
     closed: bool,
     votes: VoteBook,
@@ -74,7 +74,7 @@ impl Model for State {
 impl State {
     /// A member that has no records, in an epoch 0 that opens with these objects, of which none stands there
     /// twice. Its sequences have this limit of writers for an object between two marks, or none.
-    pub fn fresh(
+    pub(crate) fn fresh(
         alloc: Global,
         opening: &Seq<Object>,
         writers: Option<u32>,
@@ -93,34 +93,66 @@ impl State {
         })
     }
 
+    /// A member that has nothing, in an epoch 0 that opened with nothing. Takes no memory.
+    fn empty(alloc: Global, writers: Option<u32>) -> State
+        ensures { result ≡ record { writers = writers; member = fresh [] } }
+    {
+        State {
+            records: 0,
+            closed: false,
+            votes: VoteBook::new(alloc),
+            ordered: 0,
+            course: Course::empty(alloc, writers),
+            alloc,
+        }
+    }
+
+    /// Has nothing any more. Takes no memory.
+    fn abandon(&mut self)
+        ensures { self.new ≡ record { writers = self.old.writers; member = fresh [] } }
+    {
+        let empty = State::empty(self.alloc, self.course.admission.writers());
+        drop(replace(self, empty));
+    }
+
+    /// What is left after a call: of a member that fell, nothing. Takes no memory.
+    pub(crate) fn settle(&mut self, fell: bool)
+        ensures limit { self.new.writers ≡ self.old.writers }
+        ensures member { self.new.member ≡ (if fell then fresh [] else self.old.member) }
+    {
+        if fell {
+            self.abandon();
+        }
+    }
+
     /// The allocator that the state takes its memory from.
     pub(crate) fn allocator(&self) -> Global {
         self.alloc
     }
 
     /// The number of records. Takes no memory.
-    pub fn records(&self) -> u64
+    pub(crate) fn records(&self) -> u64
         ensures { result ≡ self.now.member.records }
     {
         self.records
     }
 
     /// The present epoch. Takes no memory.
-    pub fn epoch(&self) -> u64
+    pub(crate) fn epoch(&self) -> u64
         ensures { result ≡ self.now.member.epoch }
     {
         self.course.epoch
     }
 
     /// The number of entries of the epoch's sequence that the member has seen. Takes no memory.
-    pub fn seen(&self) -> u64
+    pub(crate) fn seen(&self) -> u64
         ensures { result ≡ self.now.member.sequence.number }
     {
         self.course.seen
     }
 
     /// Whether the member saw the end of the epoch. Takes no memory.
-    pub fn has_ended(&self) -> bool
+    pub(crate) fn has_ended(&self) -> bool
         ensures { result ≡ self.now.member.sequence.ended }
     {
         self.course.ended
@@ -154,7 +186,7 @@ impl State {
 
     /// The number of checkpoints that the member has built, over all its epochs. Takes no memory.
     #[tactic(auto, unfolding(protocol_spec::specs::Member::Member::built), using(crate::proofs::Coursing::built_is))]
-    pub fn checkpoints(&self) -> u64
+    pub(crate) fn checkpoints(&self) -> u64
         ensures { result ≡ length (built_by self.now.member) }
     {
         self.course.chain.len()
@@ -162,7 +194,7 @@ impl State {
 
     /// The number of transactions in the checkpoints that the member has built. Takes no memory.
     #[tactic(auto, unfolding(protocol_spec::specs::Member::Member::built), using(crate::proofs::Coursing::built_is))]
-    pub fn checkpointed(&self) -> u64
+    pub(crate) fn checkpointed(&self) -> u64
         ensures { result ≡ transactions_in (built_by self.now.member) }
     {
         self.course.chain.transactions()
@@ -170,14 +202,14 @@ impl State {
 
     /// The checkpoint of this number; none exactly if it was not built. Takes no memory.
     #[tactic(auto, unfolding(protocol_spec::specs::Member::Member::built), using(crate::proofs::Coursing::built_is))]
-    pub fn checkpoint(&self, number: u64) -> Option<&Checkpoint>
+    pub(crate) fn checkpoint(&self, number: u64) -> Option<&Checkpoint>
         ensures { option_map (λ (c : _). c.now) result ≡ slice_get (built_by self.now.member) number }
     {
         self.course.chain.checkpoint(number)
     }
 
     /// Whether the member closed the epoch. Takes no memory.
-    pub fn is_closed(&self) -> bool
+    pub(crate) fn is_closed(&self) -> bool
         ensures { result ≡ self.now.member.closed }
     {
         self.closed
@@ -192,7 +224,7 @@ impl State {
     }
 
     /// The transactions of the fork that the member met, if it met one. Takes no memory.
-    pub fn fork(&self) -> Option<(Digest, Digest)>
+    pub(crate) fn fork(&self) -> Option<(Digest, Digest)>
         ensures { result ≡ option_map (λ (f : TheFork). (f.first, f.second)) (fork_of self.now.member) }
     {
         match self.first_fork() {
@@ -202,21 +234,21 @@ impl State {
     }
 
     /// Whether the list of records has no room for one more. Takes no memory.
-    pub fn is_full(&self) -> bool
+    pub(crate) fn is_full(&self) -> bool
         ensures { result ≡ nat_le record_limit self.now.member.records }
     {
         self.records >= RECORD_LIMIT
     }
 
     /// The object of a held version. Takes no memory.
-    pub fn object(&self, key: &ObjectKey) -> Option<&Object>
+    pub(crate) fn object(&self, key: &ObjectKey) -> Option<&Object>
         ensures { option_copied result ≡ option_map object_in (version_at (versions self.now.member.opening self.now.member.executed) key.now) }
     {
         self.course.store.get(key)
     }
 
     /// The live objects by ascending id.
-    pub fn live_list(&self) -> Result<Seq<Object>, OutOfMemory>
+    pub(crate) fn live_list(&self) -> Result<Seq<Object>, OutOfMemory>
         ensures { IfOk result (λ objects. objects ≡ live_objects self.now.member) }
     {
         self.course.store.live_list()
@@ -265,7 +297,7 @@ impl State {
 
     /// Takes the record of a vote for the transaction of this digest and these consumed keys. If memory is
     /// refused the state is not to be used.
-    pub fn take_vote(
+    pub(crate) fn take_vote(
         &mut self,
         tx: &Transaction,
         digest: Digest,
@@ -287,7 +319,7 @@ impl State {
 
     /// Takes the record of a certificate that is newly held, or is the evidence of a fork. If memory is
     /// refused the state is not to be used.
-    pub fn take_hold(&mut self, held: Held) -> Result<(), OutOfMemory>
+    pub(crate) fn take_hold(&mut self, held: Held) -> Result<(), OutOfMemory>
         requires digest { held.digest ≡ transaction_digest held.cert.tx }
         requires shape { shape_fault held.cert.tx ≡ None }
         requires new { is_some (held_of self.old.member.held held.digest) ≡ false }
@@ -345,7 +377,9 @@ impl State {
     /// their effects in order, and the checkpoints that are complete by it; the record of it is to be counted. The items of
     /// that record are those of the effects. If memory is refused the state is not to be used.
     #[tactic(auto, unfolding(protocol_spec::specs::Member::Member::built), using(crate::proofs::Named::ran_named))]
-    pub fn execute(&mut self) -> Result<(Seq<HashedEffects>, Seq<HashedCheckpoint>), OutOfMemory>
+    pub(crate) fn execute(
+        &mut self,
+    ) -> Result<(Seq<HashedEffects>, Seq<HashedCheckpoint>), OutOfMemory>
         ensures state { OnOk result (self.new.member ≡ with_rounds self.old.member) }
         ensures effects { IfOk result (λ r. r.0 ≡ map effects_of (rounds (books self.old.member) self.old.member.executed)) }
         ensures items { IfOk result (λ r. items_of r.0 ≡ ran_items self.old.member) }
@@ -362,9 +396,9 @@ impl State {
         }
     }
 
-    /// Likewise, by 1 to 16 workers in threads. The gate is notified of each execution.
+    /// Likewise, by 1 to 16 workers in threads. The gate is notified of each execution, which no clause says.
     #[tactic(auto, unfolding(protocol_spec::specs::Member::Member::built), using(crate::proofs::Named::ran_named))]
-    pub fn execute_pooled<R: Threads + Sync, G: Gate + Sync>(
+    pub(crate) fn execute_pooled<R: Threads + Sync, G: Gate + Sync>(
         &mut self,
         rt: &R,
         workers: u32,
@@ -389,14 +423,14 @@ impl State {
 
     /// The held certificates that a run left although all that they waited for is executed.
     #[tactic(auto, unfolding(protocol_spec::specs::Member::Rounds::left))]
-    pub fn left(&self) -> Result<Seq<Left>, OutOfMemory>
+    pub(crate) fn left(&self) -> Result<Seq<Left>, OutOfMemory>
         ensures { IfOk result (λ all. all ≡ left (books self.now.member) self.now.member.executed) }
     {
         self.course.left()
     }
 
     /// Counts the record of a run. Takes no memory.
-    pub fn count_run(&mut self)
+    pub(crate) fn count_run(&mut self)
         requires room { nat_le record_limit self.old.member.records ≡ false }
         ensures state { self.new.member ≡ counted self.old.member }
         ensures limit { self.new.writers ≡ self.old.writers }
@@ -405,7 +439,7 @@ impl State {
     }
 
     /// Takes the record of a close. Takes no memory.
-    pub fn take_close(&mut self)
+    pub(crate) fn take_close(&mut self)
         requires room { nat_le record_limit self.old.member.records ≡ false }
         ensures state { self.new.member ≡ closing self.old.member }
         ensures limit { self.new.writers ≡ self.old.writers }

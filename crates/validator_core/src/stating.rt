@@ -1,8 +1,8 @@
 //! What a member states beside its votes: that it executed a transaction, and that it ended its epoch.
 
 ghost use Rattle.std.specs.Prelude.{◌≡◌, IfOk, IsErrOf};
-ghost use Rattle.answer_types.specs.declared.refusals.AckRefusal.TheVariants as no_ack;
-ghost use Rattle.answer_types.specs.declared.refusals.EndRefusal.TheVariants as no_end;
+ghost use Rattle.protocol_spec.specs.declared.refusals.AckRefusal.TheVariants as no_ack;
+ghost use Rattle.protocol_spec.specs.declared.refusals.EndRefusal.TheVariants as no_end;
 ghost use Rattle.chain_messages.specs.Messages.{statement as statement_codec};
 ghost use Rattle.protocol_spec.specs.Chain.Words.{first_some, unless_refused};
 ghost use Rattle.protocol_spec.specs.Member.Calls.{ack_answer, end_answer, end_cases};
@@ -10,10 +10,10 @@ ghost use Rattle.validator_core.specs.Answers.{bare};
 ghost use Rattle.validator_core.specs.Calls.{Acks, Ends, IsSealedBy};
 ghost use Rattle.world_spec.specs.Step.{executed_digest};
 
-use crate::State;
-use answer_types::{AckRefusal, EndRefusal};
+use crate::state::State;
 use chain_messages::{Sealed, Statement, encode_statement};
 use digest_core::Digest;
+use protocol_spec::{AckRefusal, EndRefusal};
 use quorum_core::{Sealer, Signer};
 use std::alloc::Global;
 use wire_bcs::OutOfMemory;

@@ -4,15 +4,15 @@ ghost use Rattle.std.specs.Prelude.{◌≡◌, ◌+◌, ◌<◌, ◌≤◌, ◌^
 ghost use Rattle.protocol_spec.specs.Chain.Certificates.{Rules};
 ghost use Rattle.protocol_spec.specs.Member.Admission.{deferred_on, digest_of_admitted, pending_on};
 ghost use Rattle.protocol_spec.specs.Member.Sequence.{newly_admitted, newly_dropped, commits, counts, seen_what, takes};
-ghost use Rattle.scene_spec.specs.Terms.{rules_for};
+ghost use Rattle.world_spec.specs.Terms.{rules_for};
 ghost use Rattle.validator_core.specs.Courses.{IsAdmitting, IsSound, IsUnbuilt, Stays, arrives, brings, coursed, ends, marks, newly_built, numbered_in, sequence_in};
 ghost use Rattle.validator_core.specs.Entries.{IsArriving, IsEnding, MayArrive, waiting_answer, what_as};
 
 use crate::course::Course;
 use crate::entries::Arrival;
-use answer_types::{Held, Seen, SeenWhat};
 use digest_core::Digest;
 use epoch_turn::Counted;
+use protocol_spec::{Held, Seen, SeenWhat};
 use quorum_core::Committee;
 use version_assign::Taken;
 use wire_bcs::OutOfMemory;
@@ -32,7 +32,7 @@ impl Course {
         ensures seen { self.new.seen ≡ self.old.seen }
     {
         if self.held.has(&new.digest) {
-            return self.admission.enter(new);
+            return self.admission.push(&new.digest, &new.cert);
         }
         self.waiting
             .hold(&self.store, &self.admission, self.held.as_slice(), &new)?;

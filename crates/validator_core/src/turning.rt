@@ -7,19 +7,19 @@ ghost use Rattle.protocol_spec.specs.Chain.Words.{first_some, unless_refused};
 ghost use Rattle.protocol_spec.specs.Member.Member.{fork_of};
 ghost use Rattle.protocol_spec.specs.Member.Calls.{called, due, record_limit, turn_answer, turn_cases, turns};
 ghost use Rattle.protocol_spec.specs.Member.Replay.{is_allowed};
-ghost use Rattle.answer_types.specs.declared.refusals.TurnRefusal.TheVariants as no_turn;
+ghost use Rattle.protocol_spec.specs.declared.refusals.TurnRefusal.TheVariants as no_turn;
 ghost use Rattle.validator_core.specs.Answers.{OnTaken, bare};
 ghost use Rattle.validator_core.specs.Calls.{Turns, turn_ended};
 ghost use Rattle.validator_core.specs.Seats.{Appended, Becomes, Journaled, has_fallen};
 ghost use Rattle.validator_core.specs.Steps.{turning};
 ghost use Rattle.validator_core.specs.declared.keeping.Unkept.TheVariants as unkept;
 
-use crate::State;
 use crate::keeping::{Unkept, append};
-use answer_types::TurnRefusal;
+use crate::state::State;
 use digest_core::Digest;
 use journal_core::Record;
 use outside::Keeper;
+use protocol_spec::TurnRefusal;
 use std::alloc::Global;
 use wire_bcs::{OutOfMemory, Seq};
 
@@ -51,7 +51,7 @@ impl State {
     /// Takes the record of a turn, if the member may turn in this state; else false. If false is answered or memory
     /// is refused the state is not to be used.
     #[tactic(auto, unfolding(protocol_spec::specs::Member::Replay::is_allowed), using(crate::proofs::Turned::turn_allowed, crate::proofs::Turned::turn_not_allowed))]
-    pub fn take_turn_back(&mut self) -> Result<bool, OutOfMemory>
+    pub(crate) fn take_turn_back(&mut self) -> Result<bool, OutOfMemory>
         ensures taken { IfOk result (λ taken. taken ≡ is_allowed bare self.old.member record_as.Turn) }
         ensures state { OnTaken result (self.new.member ≡ turning self.old.member) }
         ensures limit { self.new.writers ≡ self.old.writers }

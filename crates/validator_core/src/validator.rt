@@ -6,34 +6,35 @@ ghost use Rattle.chain_types.specs.Digests.{digest_of_object};
 ghost use Rattle.protocol_spec.specs.Member.Versions.{Version, version_at, versions as versions_of};
 ghost use Rattle.protocol_spec.specs.Member.Member.{Fork, built as built_by, fork_of, live_objects};
 ghost use Rattle.protocol_spec.specs.Member.Calls.{closes, holds, runs, sees, turns, votes};
-ghost use Rattle.answer_types.specs.declared.refusals.HoldRefusal.TheVariants as no_hold;
-ghost use Rattle.answer_types.specs.declared.refusals.VoteRefusal.TheVariants as no_vote;
-ghost use Rattle.answer_types.specs.declared.refusals.CloseRefusal.TheVariants as no_close;
-ghost use Rattle.answer_types.specs.declared.refusals.RunRefusal.TheVariants as no_run;
-ghost use Rattle.answer_types.specs.declared.refusals.SeeRefusal.TheVariants as no_see;
-ghost use Rattle.answer_types.specs.declared.refusals.TurnRefusal.TheVariants as no_turn;
+ghost use Rattle.protocol_spec.specs.declared.refusals.HoldRefusal.TheVariants as no_hold;
+ghost use Rattle.protocol_spec.specs.declared.refusals.VoteRefusal.TheVariants as no_vote;
+ghost use Rattle.protocol_spec.specs.declared.refusals.CloseRefusal.TheVariants as no_close;
+ghost use Rattle.protocol_spec.specs.declared.refusals.RunRefusal.TheVariants as no_run;
+ghost use Rattle.protocol_spec.specs.declared.refusals.SeeRefusal.TheVariants as no_see;
+ghost use Rattle.protocol_spec.specs.declared.refusals.TurnRefusal.TheVariants as no_turn;
 ghost use Rattle.validator_core.specs.Calls.{Acks, Closes, Ends, Holds, Runs, Sees, Turns, Votes, ack_said, close_ended, close_said, end_said, hold_ended, hold_said, origins_in, run_ended, run_said, see_ended, see_said, turn_ended, turn_said, vote_ended, vote_said};
-ghost use Rattle.scene_spec.specs.Terms.{rules_for};
+ghost use Rattle.world_spec.specs.Terms.{rules_for};
 ghost use Rattle.checkpoint_core.specs.Checkpoints.{transactions_in};
-ghost use Rattle.scene_spec.specs.Starts.{AreApart, started};
+ghost use Rattle.world_spec.specs.Starts.{AreApart, started};
 ghost use Rattle.validator_core.specs.Starts.{Starts};
 ghost use Rattle.validator_core.specs.Opened.{opening_objects};
 ghost use Rattle.validator_core.specs.Seats.{Behaves, Fell, Journaled};
-ghost use Rattle.scene_spec.specs.Seats.{bare_rules, due_at, rules_of_seat};
+ghost use Rattle.world_spec.specs.Seats.{bare_rules, due_at, rules_of_seat};
 ghost use Rattle.world_spec.specs.Step.{executed_digest};
 
 use crate::start::take_all;
-use crate::{State, calls, epoch_calls, sees, stating, turning};
-use answer_types::{
-    AckRefusal, CloseRefusal, EndRefusal, HoldRefusal, Ran, RunRefusal, SeeRefusal, Seen,
-    StartRefusal, TurnRefusal, VoteRefusal, Voted,
-};
+use crate::state::State;
+use crate::{calls, epoch_calls, sees, stating, turning};
 use chain_messages::Sealed;
 use chain_types::{Object, ObjectKey};
 use checkpoint_core::Checkpoint;
 use dag_pool::Gate;
 use digest_core::Digest;
 use outside::Keeper;
+use protocol_spec::{
+    AckRefusal, CloseRefusal, EndRefusal, HoldRefusal, Ran, RunRefusal, SeeRefusal, Seen,
+    StartRefusal, TurnRefusal, VoteRefusal, Voted,
+};
 use quorum_core::{Committee, Sealer};
 use std::alloc::Global;
 use std::marker::Model;
@@ -50,7 +51,7 @@ pub struct Validator {
 }
 
 impl Model for Validator {
-    ghost use Rattle.scene_spec.specs.Seats.{Seated};
+    ghost use Rattle.world_spec.specs.Seats.{Seated};
 
     ghost Value = { Seated };
 
@@ -62,7 +63,7 @@ impl Validator {
     /// with these objects, none of them twice; its sequences have this limit of writers, or none. `BadRecord` comes
     /// exactly at the first record that does not decode (1), or that no call would have appended (2). The record of a
     /// run is taken in both forms, with effects and without.
-    #[tactic(auto, unfolding(scene_spec::specs::Starts::started))]
+    #[tactic(auto, unfolding(world_spec::specs::Starts::started))]
     pub fn start<S: Sealer>(
         alloc: Global,
         member: u32,
@@ -205,7 +206,9 @@ impl Validator {
             return Err(VoteRefusal::Down);
         }
         let answer = calls::vote(&mut self.state, keeper, sealer, self.member, bytes);
-        self.up = !calls::vote_fell(&answer);
+        let fell = calls::vote_fell(&answer);
+        self.state.settle(fell);
+        self.up = !fell;
         answer
     }
 
@@ -242,7 +245,9 @@ impl Validator {
             self.member,
             bytes,
         );
-        self.up = !calls::hold_fell(&answer);
+        let fell = calls::hold_fell(&answer);
+        self.state.settle(fell);
+        self.up = !fell;
         answer
     }
 
@@ -281,15 +286,18 @@ impl Validator {
             number,
             bytes,
         );
-        self.up = !sees::see_fell(&answer);
+        let fell = sees::see_fell(&answer);
+        self.state.settle(fell);
+        self.up = !fell;
         answer
     }
 
     /// Lets the member execute what it holds, round after round (Sui Lutris): answers the effects in order, and the
     /// certificates that it left although all that they waited for is executed, and the checkpoints that the run
-    /// completes. The certificates are executed by 1 to 16 workers in threads, and the gate is notified of each execution;
-    /// the result is the same for any number of workers and in every interleaving. Order of the refusals: `Down`, `Halted`, `Full`, `KeepFault`. The record of a run that executed
-    /// something is appended before the call answers. After `KeepFault` and running out of memory the member is down.
+    /// completes. The certificates are executed by 1 to 16 workers in threads, and the gate is notified of each
+    /// execution (which no clause says); the result is the same for any number of workers and in every interleaving.
+    /// Order of the refusals: `Down`, `Halted`, `Full`, `KeepFault`. The record of a run that executed something is
+    /// appended before the call answers. After `KeepFault` and running out of memory the member is down.
     #[tactic(auto, using(crate::proofs::Running::run_settles, crate::proofs::Running::run_at, crate::proofs::Running::run_due_at, crate::proofs::Running::run_owed_at, crate::proofs::Settling::down_keeps))]
     pub fn run<R: Threads + Sync, D: Keeper, G: Gate + Sync>(
         &mut self,
@@ -313,7 +321,9 @@ impl Validator {
             return Err(RunRefusal::Down);
         }
         let answer = epoch_calls::run(rt, &mut self.state, keeper, self.member, workers, gate);
-        self.up = !epoch_calls::run_fell(&answer);
+        let fell = epoch_calls::run_fell(&answer);
+        self.state.settle(fell);
+        self.up = !fell;
         answer
     }
 
@@ -337,7 +347,9 @@ impl Validator {
             return Err(CloseRefusal::Down);
         }
         let answer = epoch_calls::close(&mut self.state, keeper, self.member);
-        self.up = !epoch_calls::close_fell(&answer);
+        let fell = epoch_calls::close_fell(&answer);
+        self.state.settle(fell);
+        self.up = !fell;
         answer
     }
 
@@ -399,7 +411,9 @@ impl Validator {
             return Err(TurnRefusal::Down);
         }
         let answer = turning::turn(&mut self.state, keeper, self.member);
-        self.up = !turning::turn_fell(&answer);
+        let fell = turning::turn_fell(&answer);
+        self.state.settle(fell);
+        self.up = !fell;
         answer
     }
 }

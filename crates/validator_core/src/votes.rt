@@ -5,15 +5,15 @@ ghost use Rattle.chain_types.specs.Transactions.{transaction};
 ghost use Rattle.chain_types.specs.Digests.{transaction_digest};
 ghost use Rattle.protocol_spec.specs.Chain.Words.{unless_refused};
 ghost use Rattle.protocol_spec.specs.Chain.Certificates.{accepts_sender};
-ghost use Rattle.answer_types.specs.declared.refusals.VoteRefusal.TheVariants as no_vote;
+ghost use Rattle.protocol_spec.specs.declared.refusals.VoteRefusal.TheVariants as no_vote;
 ghost use Rattle.protocol_spec.specs.Member.Member.{fork_of, vote_for};
 ghost use Rattle.protocol_spec.specs.Member.Calls.{decided_as, due, new_vote, record_limit, vote_answer, vote_on, vote_stopped, votes};
 ghost use Rattle.validator_core.specs.Answers.{IsFree, Repeats, VoteDue, VotesAs, decision_in, sealed_as, unsealed_where};
 
 use crate::state::State;
-use answer_types::VoteRefusal;
 use chain_types::{DecideRefusal, SignedTx, Transaction, decode_signed_with, encoded_digest};
 use digest_core::Digest;
+use protocol_spec::VoteRefusal;
 use quorum_core::{Sealer, Signer};
 use tx_check::{ShapeRefusal, check_shape};
 use wire_bcs::{Duplicate, Seq, Unread};
@@ -21,7 +21,7 @@ use wire_bcs::{Duplicate, Seq, Unread};
 /// A vote that a member gives: for the transaction of this digest, naming these origins. It is not fresh if
 /// the member had given it before.
 #[derive(Debug, Drop)]
-pub struct Decision {
+pub(crate) struct Decision {
     pub digest: Digest,
     pub origins: Seq<Option<Digest>>,
     pub fresh: bool,
@@ -121,7 +121,7 @@ impl State {
 
     /// The vote for the transaction of this digest; `sealed` says whether its seal is accepted. It is the one that was given
     /// before, or a new one. Order of the refusals: `WrongEpoch`, `Closed`, `Invalid`, `Unsealed`, the vote rule's.
-    pub fn vote_on(
+    pub(crate) fn vote_on(
         &self,
         tx: &Transaction,
         digest: Digest,
@@ -148,7 +148,7 @@ impl State {
     /// The vote for what the bytes encode, with that transaction and its bytes among them. Order of the refusals: `Halted`,
     /// `Full`, `Malformed`, then those of [`State::vote_on`].
     #[tactic(auto, unfolding(protocol_spec::specs::Member::Calls::vote_answer, protocol_spec::specs::Member::Calls::due, protocol_spec::specs::Chain::Certificates::read_signed, chain_types::specs::Transactions::signed))]
-    pub fn vote<'a, S: Sealer>(
+    pub(crate) fn vote<'a, S: Sealer>(
         &self,
         sealer: &S,
         bytes: &'a [u8],

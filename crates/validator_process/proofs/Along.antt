@@ -1,20 +1,23 @@
 -- Lines that are served one after the other.
-use Rattle.std.proofs.Common.{◌≡◌, ℕ, List, [], ◌∷◌, ◌++◌, fold, Option, Some, None, refl, sym, ap, ◌∙◌, subst, append_assoc, append-nil}
+use Rattle.std.proofs.Common.{◌≡◌, inl, ℕ, List, [], ◌∷◌, ◌++◌, fold, Option, Some, None, refl, sym, ap, ◌∙◌, subst, append_assoc, append-nil}
 use Rattle.std.specs.List.{flat_map}
-use Rattle.std.specs.Io.KnownBytes.{Appends}
+use Rattle.std.specs.Io.KnownBytes.{Appends, Keeps}
 use Rattle.std.proofs.KnownBytes.{Appends-nil, Appends-trans, Consumes-nil, Consumes-trans}
 use Rattle.outside.specs.Lists.{Journals, with_record}
 use Rattle.journal_core.specs.declared.records.Record.{Record}
 use Rattle.journal_core.specs.Records as journals
 use Rattle.protocol_spec.proofs.ListLemmas.{each_push}
-use Rattle.scene_spec.specs.Posts.{AddsLeft}
-use Rattle.scene_spec.specs.Seats.{Seated}
+use Rattle.world_spec.specs.Posts.{AddsLeft}
+use Rattle.world_spec.specs.Seats.{Seated}
+use Rattle.validator_core.proofs.Settling.{keeps_same}
 use Rattle.world_core.specs.Replies.{Accepting}
 use Rattle.process_lines.specs.declared.request.Request.{Request}
 use Rattle.process_lines.specs.declared.request.Request.TheVariants as request
 use Rattle.process_lines.specs.Lines.{HasNoEnd, ReadsLine}
+use Rattle.validator_process.specs.declared.stop.Stop.{Stop}
+use Rattle.validator_process.specs.declared.stop.Stop.TheVariants as stop
 use Rattle.validator_process.specs.Moves.{moved}
-use Rattle.validator_process.specs.Serving.{AddsRecords, Answers, AreAnswered, Around, Exchange, ReadsLines, Serves, ServesOne, due_for_line, ended, records_left, request_in, seat_behind_line, seat_behind_lines, seat_behind_request, spelled, with_records}
+use Rattle.validator_process.specs.Serving.{AddsRecords, Answers, AreAnswered, Around, Exchange, IsCutBy, ReadsLines, Serves, ServesOne, ServesSome, due_for_line, ended, records_left, request_in, seat_behind_line, seat_behind_lines, seat_behind_request, spelled, with_records}
 
 module _ (accepts : Accepting) where
   -- ---- one exchange more at the end
@@ -135,3 +138,16 @@ module _ (accepts : Accepting) where
           (subst (λ (m : ℕ). AddsLeft b.kept c.kept m (due_for_line accepts b.seat x.line)) same_member one.keeps)));
       seat = one.seat ∙ ap (λ (s : Seated). seat_behind_line accepts s x.line) served.seat ∙ sym (seat_push accepts a.seat xs x);
     }
+
+-- ---- until a stop
+
+module _ (accepts : Accepting) (xs : List Exchange) (a mid : Around) (served : Serves accepts xs a mid) where
+  pub some_served : (why : Stop) (now : Around) → IsCutBy accepts why mid now → ServesSome accepts why a now
+  some_served why now cut = record { exchanges = xs; last = mid; serves = served; cut = cut }
+
+  pub none_more : ServesSome accepts stop.OutOfMemory a mid
+  none_more = some_served stop.OutOfMemory mid (inl (record { writes = same-held mid.held; keeps = keeps_same mid.kept }))
+    where
+      same-held : (held : Option (List ℕ)) → Keeps held held
+      same-held None = tt
+      same-held (Some bytes) = refl

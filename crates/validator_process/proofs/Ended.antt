@@ -1,19 +1,20 @@
 -- How a process ends.
-use Rattle.std.proofs.Common.{◌≡◌, inl, inr, ℕ, ◌≤◌, List, Option, Some, None, subst, refl, sym, ◌∙◌, ap, arith}
+use Rattle.std.proofs.Common.{◌≡◌, inl, inr, ℕ, ◌≤◌, Bool, List, length, Option, Some, None, subst, refl, sym, ◌∙◌, ap, arith}
 use Rattle.std.specs.Prelude.{Result, Ok, Err}
 use Rattle.std.specs.Io.KnownBytes.{Appends}
 use Rattle.outside.specs.Causes.{Rose}
 use Rattle.outside.specs.Lists.{Journals, KeepsJournals}
 use Rattle.outside.specs.Streams.{AppendsFront, ReadsText}
 use Rattle.schedule_text.specs.Schedule.{longest_text}
-use Rattle.disk_log.specs.Disk.{History, IfTold}
+use Rattle.disk_log.specs.Disk.{AreSeen, History, IfTold, moments}
+use Rattle.disk_log.specs.Keeping.{told_lists}
 use Rattle.disk_log.specs.Log.{WalkCause}
 use Rattle.disk_log.specs.Records.{Record}
-use Rattle.disk_log.specs.Running.{HoldsLists, Unchanged}
+use Rattle.disk_log.specs.Running.{Unchanged}
 use Rattle.disk_log.specs.declared.refusals.OpenRefusal.TheVariants as refused
 use Rattle.world_spec.specs.Setting.{Trust}
-use Rattle.scene_spec.specs.Scene.{Scene}
-use Rattle.scene_spec.specs.Seats.{Seated}
+use Rattle.world_spec.specs.Scene.{Scene}
+use Rattle.world_spec.specs.Seats.{Seated}
 use Rattle.world_core.specs.Replies.{Accepting}
 use Rattle.process_lines.specs.declared.starts.StartLine.{StartLine}
 use Rattle.process_lines.specs.declared.starts.StartLine.TheVariants as start
@@ -28,9 +29,13 @@ use Rattle.validator_process.specs.Ending.{EndsJournal, EndsLife, EndsLog, EndsP
 use Rattle.validator_process.specs.declared.words.Task.{Task}
 use Rattle.validator_process.specs.declared.words.Task.TheVariants as task
 use Rattle.validator_process.specs.Genesis.{genesis_of, line_status}
-use Rattle.validator_process.specs.Growing.{LeavesFirst, counted_in}
-use Rattle.validator_process.specs.Starting.{LivesCut, LivesUnwritten, LivesWhole, OpensAs, StartsAs, start_bytes}
+use Rattle.validator_process.specs.Growing.{EachLeft, HasMore, IsWhole, StandsAs, counted_in, records_in}
+use Rattle.validator_process.specs.Starting.{LivesCut, LivesWhole, OpensAs, StartsAs, start_bytes}
 use Rattle.validator_process.specs.Stops.{status_of}
+use Rattle.protocol_spec.specs.Chain.Words.{IsFront}
+use Rattle.validator_core.proofs.Settling.{keeps_same}
+use Rattle.validator_process.proofs.Growing.{leaves_first, lists_stand, records_stand, whole_stands, width_stands}
+use Rattle.validator_process.proofs.Kept.{each_map, each_whole, each_wide, held as held_by, more_whole}
 
 -- ---- a line that ends a process
 
@@ -68,10 +73,9 @@ module _ (accepts : Accepting) (scene : Scene) (m : ℕ) (left left' held held' 
   pub lived_whole : (seat : Seated) → StartsAs accepts scene m kept (Ok seat) → KeepsJournals kept mid → LivesWhole accepts seat left left' held held' mid kept' → EndsLife accepts scene m left left' held held' kept kept' r r' w w' first k' 0
   lived_whole seat starts same lives = inl (record { seat = seat; mid = mid; starts = starts; same = same; lives = lives; ends = refl })
 
-  pub lived_cut : (seat : Seated) (why : Stop) (given : Result (Unit {0}) Stop) → given ≡ Err why → StartsAs accepts scene m kept (Ok seat) → KeepsJournals kept mid → LivesCut accepts seat left left' held held' mid kept' → first ≤ k
-      → (given ≡ Err stop.ReadFault → Rose r r') → (given ≡ Err stop.WriteFault → Rose w w') → (given ≡ Err stop.KeepFault → Rose k k')
-      → (given ≡ Err stop.WriteFault → LivesUnwritten accepts seat left left' held held' mid kept') → EndsLife accepts scene m left left' held held' kept kept' r r' w w' first k' (status_of why)
-  lived_cut seat why given is starts same lives later read write keep handed = inr (inl (record {
+  pub lived_cut : (seat : Seated) (why : Stop) (given : Result (Unit {0}) Stop) → given ≡ Err why → StartsAs accepts scene m kept (Ok seat) → KeepsJournals kept mid → LivesCut accepts why seat left left' held held' mid kept' → first ≤ k
+      → (given ≡ Err stop.ReadFault → Rose r r') → (given ≡ Err stop.WriteFault → Rose w w') → (given ≡ Err stop.KeepFault → Rose k k') → EndsLife accepts scene m left left' held held' kept kept' r r' w w' first k' (status_of why)
+  lived_cut seat why given is starts same lives later read write keep = inr (inl (record {
     seat = seat;
     mid = mid;
     why = why;
@@ -80,7 +84,6 @@ module _ (accepts : Accepting) (scene : Scene) (m : ℕ) (left left' held held' 
     lives = lives;
     ends = refl;
     cause = has_cause why r r' w w' first k k' later (λ e. read (is ∙ ap (λ (s : Stop). Err s) e)) (λ e. write (is ∙ ap (λ (s : Stop). Err s) e)) (λ e. keep (is ∙ ap (λ (s : Stop). Err s) e));
-    handed = λ e. handed (is ∙ ap (λ (s : Stop). Err s) e);
   }))
 
 module _ (accepts : Accepting) (scene : Scene) (m : ℕ) (left held held' : Option (List ℕ)) (kept kept' : Option Journals) (r w w' k k' status : ℕ) where
@@ -110,11 +113,69 @@ pub unopened_bad : (told : Option History) (k k' at : ℕ) → WalkCause k k' to
 unopened_bad None k k' at cause = tt
 unopened_bad (Some h) k k' at cause = (at, cause.bad at refl)
 
-module _ (accepts : Accepting) (scene : Scene) (m : ℕ) (told told' : Option History) (left left' held held' : Option (List ℕ)) (r r' w w' k k' status : ℕ) where
-  pub log_ends : (first : List Record) (kept lists : Option Journals) (width : ℕ) → EndsLife accepts scene m left left' held held' kept lists r r' w w' k k' status → HoldsLists width k' told' lists → IfTold told' (LeavesFirst first)
-      → EndsLog first accepts scene m told' left left' held held' kept r r' w w' k k' status
-  log_ends first kept lists width ends holds grows = record { width = width; lists = lists; ends = ends; holds = holds; grows = grows }
+-- over a log, which was such when the start began
+module _ (accepts : Accepting) (scene : Scene) (m : ℕ) (left left' held held' : Option (List ℕ)) (r r' w w' : ℕ) (told told' : Option History) (end end' : ℕ) (counts counts' : List ℕ) (shut shut' : Bool) (stands : StandsAs told' end' counts' shut' told end counts shut) (wide : length counts ≡ 65) where
+  abbrev Were : Option Journals
+  Were = told_lists told end (length counts)
 
+  abbrev Mid : Option Journals
+  Mid = told_lists told' end' (length counts')
+
+  keeps-mid : KeepsJournals Were Mid
+  keeps-mid = subst (λ (l : Option Journals). KeepsJournals Were l) (sym (lists_stand told' end' counts' shut' told end counts shut stands)) (keeps_same Were)
+
+  wide-mid : length counts' ≡ 65
+  wide-mid = width_stands told' end' counts' shut' told end counts shut stands ∙ wide
+
+  -- the log after the life
+  module _ (now : Option History) (end'' : ℕ) (counts'' : List ℕ) (many : length counts'' ≡ length counts') (k k' status : ℕ) (more : HasMore told' now end' end'' k') where
+    abbrev Are : Option Journals
+    Are = told_lists now end'' (length counts'')
+
+    abbrev LifeTo : Option Journals → Type 0
+    LifeTo lists = EndsLife accepts scene m left left' held held' Were lists r r' w w' k k' status
+
+    log-ends : LifeTo Are → EachLeft LifeTo (length counts'') now → EndsLog (records_in told end) accepts scene m now left left' held held' Were r r' w w' k k' status
+    log-ends ends each = record {
+      width = length counts'';
+      lists = Are;
+      ends = ends;
+      holds = held_by now end'' (length counts'') k' more.holds;
+      grows = leaves_first (records_in told end) now k' end''
+          (subst (λ (rs : List Record). IsFront rs (records_in now end'')) (records_stand told' end' counts' shut' told end counts shut stands) more.first) more.holds;
+      each = each_wide LifeTo (length counts'') 65 now (many ∙ wide-mid) each;
+    }
+
+  module _ (now : Option History) (end'' : ℕ) (counts'' : List ℕ) (many : length counts'' ≡ length counts') (k mid k' : ℕ) (more : HasMore told' now end' end'' k') (seat : Seated) (starts : StartsAs accepts scene m Were (Ok seat)) where
+    pub log_lived : (shut'' : Bool) → IsWhole now end'' shut'' → IfTold now (λ h. AreSeen (moments h)) → LivesWhole accepts seat left left' held held' Mid (told_lists now end'' (length counts''))
+        → EndsLog (records_in told end) accepts scene m now left left' held held' Were r r' w w' k k' 0
+    log_lived shut'' whole seen lives =
+        let ends = lived_whole accepts scene m left left' held held' Were Mid (told_lists now end'' (length counts'')) r r' w w' k mid k' seat starts keeps-mid lives in
+        log-ends now end'' counts'' many k k' 0 more ends (each_whole (LifeTo now end'' counts'' many k k' 0 more) now end'' (length counts'') shut'' whole seen ends)
+
+    pub log_cut : (why : Stop) (given : Result (Unit {0}) Stop) → given ≡ Err why → LivesCut accepts why seat left left' held held' Mid (told_lists now end'' (length counts''))
+        → EachLeft (λ lists. LivesCut accepts why seat left left' held held' Mid lists) (length counts'') now → k ≤ mid
+        → (given ≡ Err stop.ReadFault → Rose r r') → (given ≡ Err stop.WriteFault → Rose w w') → (given ≡ Err stop.KeepFault → Rose mid k')
+        → EndsLog (records_in told end) accepts scene m now left left' held held' Were r r' w w' k k' (status_of why)
+    log_cut why given is cut each later read write keep =
+        log-ends now end'' counts'' many k k' (status_of why) more (by-cut (told_lists now end'' (length counts'')) cut) (each_map (length counts'') now by-cut each)
+      where
+        by-cut : (lists : Option Journals) → LivesCut accepts why seat left left' held held' Mid lists → EndsLife accepts scene m left left' held held' Were lists r r' w w' k k' (status_of why)
+        by-cut lists lives = lived_cut accepts scene m left left' held held' Were Mid lists r r' w w' k mid k' seat why given is starts keeps-mid lives later read write keep
+
+-- no member started: the log is as it was
+module _ (accepts : Accepting) (scene : Scene) (m : ℕ) (left held held' : Option (List ℕ)) (r w w' : ℕ) (told told' : Option History) (end end' : ℕ) (counts counts' : List ℕ) (shut shut' : Bool) (stands : StandsAs told' end' counts' shut' told end counts shut) (wide : length counts ≡ 65) where
+  pub log_unstarted : (k k' status : ℕ) (why : Unstarted) (given : Result Seated Unstarted) → given ≡ Err why → IsWhole told end shut → IfTold told' (λ h. AreSeen (moments h)) → StartsAs accepts scene m (told_lists told end (length counts)) (Err why) → (given ≡ Err (unstarted.Stopped stop.KeepFault) → Rose k k')
+      → SaysUnstarted why held held' w w' status → EndsLog (records_in told end) accepts scene m told' left left held held' (told_lists told end (length counts)) r r w w' k k' status
+  log_unstarted k k' status why given is whole seen starts cause said =
+      let mid-whole : IsWhole told' end' shut' = whole_stands told' end' counts' shut' told end counts shut stands whole in
+      let more : HasMore told' told' end' end' k' = more_whole told' end' k' shut' mid-whole seen in
+      let same = keeps-mid accepts scene m left left held held' r r w w' told told' end end' counts counts' shut shut' stands wide in
+      let ends = unstarted_life accepts scene m left held held' (told_lists told end (length counts)) (told_lists told' end' (length counts')) r w w' k k' status why given is starts same cause said in
+      log-ends accepts scene m left left held held' r r w w' told told' end end' counts counts' shut shut' stands wide told' end' counts' refl k k' status more ends
+      (each_whole (λ lists. EndsLife accepts scene m left left held held' (told_lists told end (length counts)) lists r r w w' k k' status) told' end' (length counts') shut' mid-whole seen ends)
+
+module _ (accepts : Accepting) (scene : Scene) (m : ℕ) (told told' : Option History) (left left' held held' : Option (List ℕ)) (r r' w w' k k' status : ℕ) where
   pub journal_life : (opened : ℕ) (first : List Record) (kept : Option Journals) → first ≡ counted_in told → kept ≡ kept_in told → k ≤ opened → EndsLog first accepts scene m told' left left' held held' kept r r' w w' opened k' status
       → EndsJournal accepts scene m told told' left left' held held' r r' w w' k k' status
   journal_life opened first kept same lists later over = inl (record {

@@ -10,14 +10,14 @@ use Rattle.disk_log.specs.Records.{Record, bad_member, counted, journals_of}
 use Rattle.schedule_text.specs.declared.words.Schedule.{Schedule}
 use Rattle.schedule_text.specs.Schedule.{Refused, longest_text, schedule_of}
 use Rattle.protocol_spec.specs.Member.Member.{fresh}
-use Rattle.scene_spec.specs.Posts.{seat_at}
-use Rattle.scene_spec.specs.Scene.{Scene, rules_in}
-use Rattle.scene_spec.specs.Seats.{Seated}
-use Rattle.scene_spec.specs.Starts.{started}
+use Rattle.world_spec.specs.Posts.{seat_at}
+use Rattle.world_spec.specs.Scene.{Scene, rules_in}
+use Rattle.world_spec.specs.Seats.{Seated}
+use Rattle.world_spec.specs.Starts.{started}
 use Rattle.world_spec.specs.Setting.{Trust}
 use Rattle.world_core.specs.Crews.{honest_post}
 use Rattle.world_core.specs.Replies.{Accepting}
-use Rattle.text_law.proofs.Members.{tagged-digest}
+use Rattle.run_law.proofs.Members.{tagged-digest}
 use Rattle.process_lines.specs.declared.starts.StartLine.{StartLine}
 use Rattle.process_lines.specs.declared.starts.StartLine.TheVariants as start
 use Rattle.lives_law.specs.Files.{Follows, IsLeft, kept_of}

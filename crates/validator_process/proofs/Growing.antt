@@ -1,50 +1,69 @@
 -- The log of a process: the records that it was opened with stay the first.
 use Rattle.std.proofs.Common.{inl, inr, sym, subst, ap, ◌∙◌, refl}
-use Rattle.std.specs.Prelude.{◌≡◌, ℕ, List, [], ◌∷◌, ◌++◌, Option, Some, None, Result, Ok, Err}
-use Rattle.outside.specs.declared.faults.OutFault.{OutFault}
+use Rattle.std.specs.Prelude.{◌≡◌, ℕ, Bool, List, [], ◌∷◌, ◌++◌, length, Option, Some, None}
+use Rattle.outside.specs.Lists.{Journals}
 use Rattle.disk_log.specs.Disk.{History, IfTold}
-use Rattle.disk_log.specs.Keeping.{Opened}
+use Rattle.disk_log.specs.Keeping.{Opened, told_lists}
 use Rattle.disk_log.specs.Records.{Record, counted, records_to}
-use Rattle.disk_log.specs.Running.{AddsExactly, HasRecords, HoldsTo, records_on}
-use Rattle.protocol_spec.proofs.ListLemmas.{front_then, front_whole}
+use Rattle.disk_log.specs.Running.{HasRecords, HoldsTo}
+use Rattle.protocol_spec.proofs.ListLemmas.{front_then}
 use Rattle.protocol_spec.specs.Chain.Words.{IsFront}
 use Rattle.lives_law.specs.Files.{IsLeft}
-use Rattle.validator_process.specs.Growing.{BeginsTo, LeavesFirst, counted_in, records_in}
+use Rattle.validator_process.specs.Growing.{HasMore, IsWhole, LeavesFirst, StandsAs, counted_in, records_in}
 
 pub records_opened : (old new : Option History) (end members : ℕ) → Opened old new end members → records_in new end ≡ counted_in old
 records_opened None new end members none = ap (λ (t : Option History). records_in t end) none
 records_opened (Some h) new end members (n, is, opened) = ap (λ (t : Option History). records_in t end) is ∙ opened.records
 
-module _ (first : List Record) where
-  pub begins : (told : Option History) (end : ℕ) → records_in told end ≡ first → IfTold told (BeginsTo first end)
-  begins None end is = tt
-  begins (Some h) end is = subst (λ (l : List Record). IsFront l (records_to h.now.reads end)) is (front_whole (records_to h.now.reads end))
+-- ---- more records
 
-  one_more : (records : List Record) (r : Record) → IsFront first records → IsFront first (records ++ r ∷ [])
-  one_more records r front = front_then first records (records ++ r ∷ []) front (r ∷ [], refl)
+pub more_then : (first mid last : Option History) (end end' end'' faults faults' : ℕ) → HasMore first mid end end' faults → HasMore mid last end' end'' faults' → HasMore first last end end'' faults'
+more_then first mid last end end' end'' faults faults' one other = record {
+  first = front_then (records_in first end) (records_in mid end') (records_in last end'') one.first other.first;
+  holds = other.holds;
+}
 
-  front_on : (records : List Record) (r : Record) (result : Result (Unit {0}) OutFault) → IsFront first records → IsFront first (records_on records r result)
-  front_on records r (Ok done) front = one_more records r front
-  front_on records r (Err fault) front = front
+has-first : (first records : List Record) (faults : ℕ) (file : List ℕ) → IsFront first records → HasRecords faults records file → IsFront first (counted file)
+has-first first records faults file front (inl same) = subst (λ (l : List Record). IsFront first l) (sym same) front
+has-first first records faults file front (inr (fault, r, more)) =
+    subst (λ (l : List Record). IsFront first l) (sym more) (front_then first records (records ++ r ∷ []) front (r ∷ [], refl))
 
-  pub begins_on : (old new : Option History) (end end' : ℕ) (r : Record) (result : Result (Unit {0}) OutFault) → IfTold old (BeginsTo first end) → AddsExactly old new end end' r result → IfTold new (BeginsTo first end')
-  begins_on None new end end' r result begun none = subst (λ (t : Option History). IfTold t (BeginsTo first end')) (sym none) tt
-  begins_on (Some h) new end end' r result begun (n, is, records) =
-      subst (λ (t : Option History). IfTold t (BeginsTo first end')) (sym is)
-      (subst (λ (l : List Record). IsFront first l) (sym records) (front_on (records_to h.now.reads end) r result begun))
+pub leaves_first : (first : List Record) (told : Option History) (faults end : ℕ) → IsFront first (records_in told end) → IfTold told (HoldsTo faults end) → IfTold told (LeavesFirst first)
+leaves_first first None faults end front holds = tt
+leaves_first first (Some h) faults end front holds = go
+  where
+    go : (file : List ℕ) → IsLeft h file → IsFront first (counted file)
+    go file (inl same) = subst (λ (f : List ℕ). IsFront first (counted f)) (sym same) (has-first first (records_to h.now.reads end) faults h.now.reads front holds.reads)
+    go file (inr image) = has-first first (records_to h.now.reads end) faults file front (holds.crash file image)
 
-  pub begins_still : (old new : Option History) (end end' : ℕ) → IfTold old (BeginsTo first end) → new ≡ old → end' ≡ end → IfTold new (BeginsTo first end')
-  begins_still old new end end' begun same there =
-      subst (λ (t : Option History). IfTold t (BeginsTo first end')) (sym same) (subst (λ (e : ℕ). IfTold old (BeginsTo first e)) (sym there) begun)
+-- ---- a log that is only read
 
-  has_first : (records : List Record) (faults : ℕ) (file : List ℕ) → IsFront first records → HasRecords faults records file → IsFront first (counted file)
-  has_first records faults file front (inl same) = subst (λ (l : List Record). IsFront first l) (sym same) front
-  has_first records faults file front (inr (fault, r, more)) = subst (λ (l : List Record). IsFront first l) (sym more) (one_more records r front)
+pub same_log : (told : Option History) (end : ℕ) (counts : List ℕ) (shut : Bool) → StandsAs told end counts shut told end counts shut
+same_log told end counts shut = record { history = refl; gate = refl; sizes = refl; goes = refl }
 
-  pub leaves_first : (told : Option History) (faults end : ℕ) → IfTold told (BeginsTo first end) → IfTold told (HoldsTo faults end) → IfTold told (LeavesFirst first)
-  leaves_first None faults end begun holds = tt
-  leaves_first (Some h) faults end begun holds = go
-    where
-      go : (file : List ℕ) → IsLeft h file → IsFront first (counted file)
-      go file (inl same) = subst (λ (f : List ℕ). IsFront first (counted f)) (sym same) (has_first (records_to h.now.reads end) faults h.now.reads begun holds.reads)
-      go file (inr image) = has_first (records_to h.now.reads end) faults file begun (holds.crash file image)
+pub stands_still : (told told' first : Option History) (end end' gate : ℕ) (counts counts' sizes : List ℕ) (shut shut' goes : Bool) → StandsAs told end counts shut first gate sizes goes → told' ≡ told → end' ≡ end → counts' ≡ counts → shut' ≡ shut
+    → StandsAs told' end' counts' shut' first gate sizes goes
+stands_still told told' first end end' gate counts counts' sizes shut shut' goes was history there many same = record {
+  history = history ∙ was.history;
+  gate = there ∙ was.gate;
+  sizes = many ∙ was.sizes;
+  goes = same ∙ was.goes;
+}
+
+module _ (told : Option History) (end : ℕ) (counts : List ℕ) (shut : Bool) (first : Option History) (gate : ℕ) (sizes : List ℕ) (goes : Bool) (stands : StandsAs told end counts shut first gate sizes goes) where
+  pub lists_stand : told_lists told end (length counts) ≡ told_lists first gate (length sizes)
+  lists_stand =
+      ap (λ (t : Option History). told_lists t end (length counts)) stands.history
+      ∙ ap (λ (e : ℕ). told_lists first e (length counts)) stands.gate
+      ∙ ap (λ (cs : List ℕ). told_lists first gate (length cs)) stands.sizes
+
+  pub records_stand : records_in told end ≡ records_in first gate
+  records_stand = ap (λ (t : Option History). records_in t end) stands.history ∙ ap (λ (e : ℕ). records_in first e) stands.gate
+
+  pub width_stands : length counts ≡ length sizes
+  width_stands = ap (λ (cs : List ℕ). length cs) stands.sizes
+
+  pub whole_stands : IsWhole first gate goes → IsWhole told end shut
+  whole_stands whole =
+      subst (λ (t : Option History). IsWhole t end shut) (sym stands.history)
+      (subst (λ (e : ℕ). IsWhole first e shut) (sym stands.gate) (subst (λ (b : Bool). IsWhole first gate b) (sym stands.goes) whole))

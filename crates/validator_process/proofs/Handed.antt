@@ -5,7 +5,7 @@ use Rattle.outside.specs.Causes.{Rose}
 use Rattle.outside.specs.Lists.{Journals}
 use Rattle.disk_log.specs.Running.{HoldsLists}
 use Rattle.schedule_text.specs.Schedule.{longest_text}
-use Rattle.scene_spec.specs.Scene.{Scene}
+use Rattle.world_spec.specs.Scene.{Scene}
 use Rattle.process_lines.specs.declared.starts.StartLine.{StartLine}
 use Rattle.process_lines.specs.declared.starts.StartLine.TheVariants as start
 use Rattle.validator_process.specs.declared.journal.Unopened.{Unopened}
@@ -18,7 +18,7 @@ use Rattle.validator_process.specs.Ending.{EndsJournal, EndsLife, EndsText, HasC
 use Rattle.validator_process.specs.Genesis.{genesis_of}
 use Rattle.validator_process.specs.Handing.{IsAnswerHanded, IsFirstHanded}
 use Rattle.validator_process.specs.Living.{IsProcess, Process}
-use Rattle.validator_process.specs.Starting.{IsInside, start_bytes}
+use Rattle.validator_process.specs.Starting.{IsInside, LivesCut, start_bytes}
 use Rattle.validator_process.specs.Stops.{status_of}
 use Rattle.validator_process.proofs.Lives.{line-handed, same-scene, whole-text}
 
@@ -69,7 +69,7 @@ module _ (scene : Scene) (m : ℕ) (few : m ≤ 63) (text : List ℕ) (p : Proce
   life-handed : (k files : ℕ) (now : Option Journals) → HoldsLists files p.disk_faults (Some p.last) now
       → EndsLife program_trust.accepts scene m p.asked p.unread p.held p.holds (kept_in (Some p.first)) now p.read_before p.read_faults p.write_before p.write_faults k p.disk_faults p.status → Handed
   life-handed k files now holds (inl whole) = absurd (let e : 0 ≡ 5 = sym whole.ends ∙ five in cc)
-  life-handed k files now holds (inr (inl cut)) = line-handed scene m few p files p.disk_faults now holds cut.seat cut.mid cut.starts cut.same (cut.handed (of-sink cut.why p.status cut.ends five))
+  life-handed k files now holds (inr (inl cut)) = line-handed scene m few p files p.disk_faults now holds cut.seat cut.mid cut.starts cut.same (subst (λ (why : Stop). LivesCut program_trust.accepts why cut.seat p.asked p.unread p.held p.holds cut.mid now) (of-sink cut.why p.status cut.ends five) cut.lives)
   life-handed k files now holds (inr (inr (inl refused))) = first-handed refused.line refused.unread refused.said
   life-handed k files now holds (inr (inr (inr stopped))) = absurd (not-inside stopped.why p.status stopped.inside stopped.ends five)
 

@@ -13,4 +13,5 @@ mod Headed
 mod FirstStarts
 mod Handed
 mod Growing
+mod Kept
 mod Staying

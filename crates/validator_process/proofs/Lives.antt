@@ -15,29 +15,31 @@ use Rattle.schedule_text.specs.Schedule.{longest_text}
 use Rattle.chain_types.specs.declared.objects.Object.{Object}
 use Rattle.journal_core.specs.declared.records.Record.{Record}
 use Rattle.journal_core.specs.Records as journals
-use Rattle.answer_types.specs.declared.refusals.StartRefusal.{StartRefusal}
-use Rattle.answer_types.specs.declared.refusals.StartRefusal.TheVariants as no_start
+use Rattle.protocol_spec.specs.declared.refusals.StartRefusal.{StartRefusal}
+use Rattle.protocol_spec.specs.declared.refusals.StartRefusal.TheVariants as no_start
 use Rattle.protocol_spec.proofs.ListLemmas.{each_join, front_then, front_whole, set_length}
 use Rattle.protocol_spec.specs.Chain.Words.{Each, IsFront}
 use Rattle.protocol_spec.specs.Chain.Certificates.{Rules}
 use Rattle.protocol_spec.specs.Member.Member.{Member}
 use Rattle.protocol_spec.specs.Member.Calls.{Call, due}
-use Rattle.scene_spec.specs.Posts.{AddsLeft, MayAddLeft, list_of, seat_at}
-use Rattle.scene_spec.specs.Scene.{Scene, rules_in}
-use Rattle.scene_spec.specs.Seats.{Seated, rules_of_seat}
-use Rattle.scene_spec.specs.Starts.{started}
-use Rattle.scene_spec.specs.Worlds as worlds
+use Rattle.world_spec.specs.Posts.{AddsLeft, MayAddLeft, list_of, seat_at}
+use Rattle.world_spec.specs.Scene.{Scene, rules_in}
+use Rattle.world_spec.specs.Seats.{Seated, rules_of_seat}
+use Rattle.world_spec.specs.Starts.{started}
+use Rattle.world_spec.specs.SceneWorlds as worlds
 use Rattle.world_core.specs.Replies.{Accepting}
 use Rattle.process_lines.specs.declared.request.Request.{Request}
 use Rattle.process_lines.specs.declared.request.Request.TheVariants as request
 use Rattle.process_lines.specs.declared.starts.StartLine.{StartLine}
+use Rattle.validator_process.specs.declared.stop.Stop.{Stop}
+use Rattle.validator_process.specs.declared.stop.Stop.TheVariants as stop
 use Rattle.validator_process.specs.declared.words.Task.TheVariants as task
 use Rattle.validator_process.specs.Ending.{EndsJournal, EndsLife, EndsText, IsLife, IsUnopened, kept_in, program_trust}
 use Rattle.validator_process.specs.Genesis.{genesis_of, member_started, ready_line, started_in}
 use Rattle.validator_process.specs.Handing.{IsAnswerHanded, IsFirstHanded}
 use Rattle.validator_process.specs.Living.{AreProcesses, AreRunsOf, HasAnswered, HasNotAnswered, HaveLives, IsProcess, IsRunOf, Process, asked_in, calls_of}
-use Rattle.validator_process.specs.Serving.{AddsRecords, AreAnswered, Around, Exchange, IsCutAt, Serves, ServesAll, ServesOne, ServesSome, around, due_for_request, records_left, request_in, seat_behind_line, seat_behind_request, spelled, with_records}
-use Rattle.validator_process.specs.Starting.{LivesCut, LivesHanded, LivesSome, LivesUnwritten, LivesWhole, StartsAs, start_bytes}
+use Rattle.validator_process.specs.Serving.{AddsRecords, AreAnswered, Around, Exchange, IsCutAt, IsCutBy, Serves, ServesAll, ServesOne, ServesSome, around, due_for_request, records_left, request_in, seat_behind_line, seat_behind_request, spelled, with_records}
+use Rattle.validator_process.specs.Starting.{LivesCut, LivesSome, LivesWhole, StartsAs, start_bytes}
 use Rattle.validator_process.proofs.Along.{same_member, serves_push, texts_push}
 use Rattle.validator_process.proofs.Readable.{line-readable}
 use Rattle.lives_law.specs.Files.{AreLivesOf, AreRunsOn, Follows, IsIdleOn, IsLeft, IsLifeOn, IsReadable, Run, dues, kept_of, records_of}
@@ -247,6 +249,12 @@ module _ (accepts : Accepting) (m : ℕ) (few : m ≤ 63) (kept : List (List ℕ
         refl
         cut.writes
 
+    did-cut-by : (why : Stop) → IsCutBy accepts why last b → Did accepts m a.seat a.held b.held kept b.kept
+    did-cut-by stop.ReadFault cut = did-cut (inl cut)
+    did-cut-by stop.WriteFault cut = did-cut (inr (inr cut))
+    did-cut-by stop.KeepFault cut = did-unanswered (due_for_request accepts last.seat (request_in cut.line)) cut.writes cut.keeps
+    did-cut-by stop.OutOfMemory cut = did-cut cut
+
 -- ---- a start
 
 abbrev seat_ok : Seated → Result Seated StartLine
@@ -358,20 +366,20 @@ module _ (scene : Scene) (m : ℕ) (few : m ≤ 63) (p : Process) where
     lived-whole : (seat : Seated) (mid : Option Journals) → StartsAs accepts scene m (kept_in (Some p.first)) (Ok seat) → KeepsJournals (kept_in (Some p.first)) mid → LivesWhole accepts seat p.asked p.unread p.held p.holds mid now → Done scene m p
     lived-whole seat mid starts same lives = lived seat lives.said starts lives.ready (did-all accepts m few first_kept (around [] p.asked lives.said mid seat) (around lives.pending p.unread p.holds now lives.last) (own-member seat starts) (mid-stands mid same) lives.serves)
 
-    lived-some : (seat : Seated) (mid : Option Journals) → StartsAs accepts scene m (kept_in (Some p.first)) (Ok seat) → KeepsJournals (kept_in (Some p.first)) mid → LivesSome accepts seat p.asked p.unread p.held p.holds mid now → Done scene m p
-    lived-some seat mid starts same lives =
+    lived-some : (why : Stop) (seat : Seated) (mid : Option Journals) → StartsAs accepts scene m (kept_in (Some p.first)) (Ok seat) → KeepsJournals (kept_in (Some p.first)) mid → LivesSome accepts why seat p.asked p.unread p.held p.holds mid now → Done scene m p
+    lived-some why seat mid starts same lives =
         lived seat lives.said starts lives.ready
-        (did-cut accepts m few first_kept (around [] p.asked lives.said mid seat) (around lives.pending p.unread p.holds now lives.last) (own-member seat starts) (mid-stands mid same) lives.serves.exchanges lives.serves.last lives.serves.serves lives.serves.cut)
+        (did-cut-by accepts m few first_kept (around [] p.asked lives.said mid seat) (around lives.pending p.unread p.holds now lives.last) (own-member seat starts) (mid-stands mid same) lives.serves.exchanges lives.serves.last lives.serves.serves why lives.serves.cut)
 
     -- the sink did not take an answer
-    answer-handed : (seat : Seated) (mid : Option Journals) → StartsAs accepts scene m (kept_in (Some p.first)) (Ok seat) → KeepsJournals (kept_in (Some p.first)) mid → LivesHanded accepts seat p.asked p.unread p.held p.holds mid now → IsAnswerHanded scene m p
+    answer-handed : (seat : Seated) (mid : Option Journals) → StartsAs accepts scene m (kept_in (Some p.first)) (Ok seat) → KeepsJournals (kept_in (Some p.first)) mid → LivesSome accepts stop.WriteFault seat p.asked p.unread p.held p.holds mid now → IsAnswerHanded scene m p
     answer-handed seat mid starts same lives =
         let a : Around = around [] p.asked lives.said mid seat in
         let last : Around = lives.serves.last in
         let xs : List Exchange = lives.serves.exchanges in
-        let x : Exchange = lives.serves.handed.exchange in
+        let x : Exchange = lives.serves.cut.exchange in
         let c : Around = record { pending = lives.pending; left = p.unread; held = append_known last.held x.text; kept = now; seat = seat_behind_line accepts last.seat x.line } in
-        let one : ServesOne accepts x last c = record { reads = lives.serves.handed.reads; answers = lives.serves.handed.answers; writes = append-known last.held x.text; keeps = lives.serves.handed.keeps; seat = refl } in
+        let one : ServesOne accepts x last c = record { reads = lives.serves.cut.reads; answers = lives.serves.cut.answers; writes = append-known last.held x.text; keeps = lives.serves.cut.keeps; seat = refl } in
         let all : Serves accepts (xs ++ x ∷ []) a c = serves_push accepts xs a last lives.serves.serves x c one in
         let stand : Stands now m (first_kept ++ records_left accepts seat (xs ++ x ∷ [])) = served accepts m few first_kept (xs ++ x ∷ []) a c (own-member seat starts) (mid-stands mid same) all in
         record {
@@ -382,24 +390,24 @@ module _ (scene : Scene) (m : ℕ) (few : m ≤ 63) (p : Process) where
           starts = subst (λ (k : List (List ℕ)). started_in accepts scene m k ≡ Ok seat) starts.1 starts.2;
           answers = all.answers;
           written = Appends-trans p.held lives.said last.held (start_bytes (ready_line seat)) (flat_map (λ (y : Exchange). y.text) xs) lives.ready lives.serves.serves.writes;
-          writes = lives.serves.handed.writes;
+          writes = lives.serves.cut.writes;
           stands = λ file left. stands-front m few now (first_kept ++ records_left accepts seat (xs ++ x ∷ [])) files faults p.last stand holds file left;
         }
 
-    pub line-handed : (seat : Seated) (mid : Option Journals) → StartsAs accepts scene m (kept_in (Some p.first)) (Ok seat) → KeepsJournals (kept_in (Some p.first)) mid → LivesUnwritten accepts seat p.asked p.unread p.held p.holds mid now → IsFirstHanded p ⊎ IsAnswerHanded scene m p
+    pub line-handed : (seat : Seated) (mid : Option Journals) → StartsAs accepts scene m (kept_in (Some p.first)) (Ok seat) → KeepsJournals (kept_in (Some p.first)) mid → LivesCut accepts stop.WriteFault seat p.asked p.unread p.held p.holds mid now → IsFirstHanded p ⊎ IsAnswerHanded scene m p
     line-handed seat mid starts same (inl front) = inl (record { line = ready_line seat; writes = front.writes; unread = front.unread })
     line-handed seat mid starts same (inr lives) = inr (answer-handed seat mid starts same lives)
 
     then-keeps : (mid : Option Journals) → KeepsJournals (kept_in (Some p.first)) mid → KeepsJournals mid now → KeepsJournals (kept_in (Some p.first)) now
     then-keeps mid same keeps = subst (λ (l : Option Journals). KeepsJournals l now) same keeps
 
-    lived-cut : (seat : Seated) (mid : Option Journals) → StartsAs accepts scene m (kept_in (Some p.first)) (Ok seat) → KeepsJournals (kept_in (Some p.first)) mid → LivesCut accepts seat p.asked p.unread p.held p.holds mid now → Done scene m p
-    lived-cut seat mid starts same (inl front) = idle front.unread (kept-idle (then-keeps mid same front.keeps))
-    lived-cut seat mid starts same (inr lives) = lived-some seat mid starts same lives
+    lived-cut : (why : Stop) (seat : Seated) (mid : Option Journals) → StartsAs accepts scene m (kept_in (Some p.first)) (Ok seat) → KeepsJournals (kept_in (Some p.first)) mid → LivesCut accepts why seat p.asked p.unread p.held p.holds mid now → Done scene m p
+    lived-cut why seat mid starts same (inl front) = idle front.unread (kept-idle (then-keeps mid same front.keeps))
+    lived-cut why seat mid starts same (inr lives) = lived-some why seat mid starts same lives
 
     life-done : (k : ℕ) → EndsLife accepts scene m p.asked p.unread p.held p.holds (kept_in (Some p.first)) now p.read_before p.read_faults p.write_before p.write_faults k faults p.status → Done scene m p
     life-done k (inl life) = lived-whole life.seat life.mid life.starts life.same life.lives
-    life-done k (inr (inl life)) = lived-cut life.seat life.mid life.starts life.same life.lives
+    life-done k (inr (inl life)) = lived-cut life.why life.seat life.mid life.starts life.same life.lives
     life-done k (inr (inr (inl life))) = idle life.unread (kept-idle life.same)
     life-done k (inr (inr (inr life))) = idle life.unread (kept-idle life.same)
 

@@ -2,18 +2,15 @@
 use Rattle.std.proofs.Common.{inl, inr, refl, sym, subst, ap, ◌∙◌, arith}
 use Rattle.std.specs.Prelude.{◌≡◌, ◌⊎◌, ◌↔◌, ◌<◌, ◌≤◌, ℕ, Bool, true, false, List, [], ◌∷◌, ◌++◌, length, Option, Some, None, Result, Ok, Err}
 use Rattle.outside.specs.Causes.{Rose}
-use Rattle.outside.specs.Lists.{AddsRecord, Appended, Journals, KeepsJournals}
-use Rattle.outside.specs.declared.faults.OutFault.TheVariants as fault
+use Rattle.outside.specs.Lists.{AddsRecord, Journals, KeepsJournals}
 use Rattle.digest_core.specs.declared.Digest.{Digest}
-use Rattle.disk_log.specs.declared.refusals.LogRefusal.{LogRefusal}
-use Rattle.disk_log.specs.declared.refusals.LogRefusal.TheVariants as log
 use Rattle.disk_log.specs.Disk.{AreSeen, HasExtent, History, IfTold, IsImage, moments}
-use Rattle.disk_log.specs.Keeping.{Appends, told_lists}
+use Rattle.disk_log.specs.Keeping.{told_lists}
 use Rattle.disk_log.specs.Records.{Record, counted, journals_of, records_to}
-use Rattle.disk_log.specs.Running.{HoldsLists, IsEmptyTo, IsRunAppend, Unchanged, run_answer}
+use Rattle.disk_log.specs.Running.{AddsExactly, IsEmptyTo, Unchanged}
 use Rattle.disk_log.specs.SeenLaws.{now-seen}
 use Rattle.world_spec.specs.Setting.{Trust}
-use Rattle.scene_spec.specs.Scene.{Scene}
+use Rattle.world_spec.specs.Scene.{Scene}
 use Rattle.validator_core.proofs.Settling.{keeps_same}
 use Rattle.process_lines.specs.declared.starts.StartLine.{StartLine}
 use Rattle.process_lines.specs.declared.starts.StartLine.TheVariants as start
@@ -24,57 +21,52 @@ use Rattle.validator_process.specs.declared.stop.Stop.TheVariants as stop
 use Rattle.validator_process.specs.declared.words.Task.TheVariants as task
 use Rattle.validator_process.specs.Ending.{AddsIdentity, AreFresh, EndsLists, EndsMade, EndsMaking, EndsTask, HasIdentity, HoldsOnly, IsSaid, IsUnopenedBy, SaysUnopened, SaysUnstarted, kept_in, program_trust}
 use Rattle.validator_process.specs.Genesis.{genesis_of, line_status}
+use Rattle.validator_process.specs.Growing.{EachLeft, HasMore, IsWhole}
 use Rattle.validator_process.specs.Identity.{genesis_digest, identity_bytes, identity_record}
 use Rattle.validator_process.specs.Starting.{IsInside, OpensAs}
 use Rattle.validator_process.specs.Stops.{status_of}
 use Rattle.validator_process.proofs.Ended.{setup_refused}
+use Rattle.validator_process.proofs.Kept.{each_map, each_whole, each_wide, held as held_by}
 
 -- ---- the first record
 
 module _ (m : ℕ) (text : List ℕ) (genesis : Digest) (bytes : List ℕ) (kept kept' : Option Journals) (same : genesis ≡ genesis_digest text) (are : bytes ≡ identity_bytes m genesis) where
-  identity : AddsRecord kept kept' 64 bytes → AddsIdentity m text kept kept'
-  identity adds = subst (λ (b : List ℕ). AddsRecord kept kept' 64 b) (are ∙ ap (λ (d : Digest). identity_bytes m d) same) adds
+  pub identity_added : AddsRecord kept kept' 64 bytes → AddsIdentity m text kept kept'
+  identity_added adds = subst (λ (b : List ℕ). AddsRecord kept kept' 64 b) (are ∙ ap (λ (d : Digest). identity_bytes m d) same) adds
 
-  pub identity_added : Appended kept kept' 64 bytes (Ok tt) → AddsIdentity m text kept kept'
-  identity_added adds = identity adds
+module _ (m : ℕ) (text : List ℕ) (kept : Option Journals) where
+  abbrev MayAdd : Option Journals → Type 0
+  MayAdd lists = AddsIdentity m text kept lists ⊎ KeepsJournals kept lists
 
-  pub identity_failed : Appended kept kept' 64 bytes (Err fault.Failed) → AddsIdentity m text kept kept' ⊎ KeepsJournals kept kept'
-  identity_failed (inl adds) = inl (identity adds)
-  identity_failed (inr keeps) = inr keeps
+  pub identity_each : (genesis : Digest) (bytes : List ℕ) (width : ℕ) (told : Option History) → genesis ≡ genesis_digest text → bytes ≡ identity_bytes m genesis → EachLeft (λ lists. AddsRecord kept lists 64 bytes ⊎ KeepsJournals kept lists) width told → EachLeft MayAdd width told
+  identity_each genesis bytes width told same are each = each_map width told by-one each
+    where
+      by-one : (lists : Option Journals) → AddsRecord kept lists 64 bytes ⊎ KeepsJournals kept lists → MayAdd lists
+      by-one lists (inl adds) = inl (identity_added m text genesis bytes kept lists same are adds)
+      by-one lists (inr keeps) = inr keeps
 
-pub identity_lacked : (m : ℕ) (text bytes : List ℕ) (kept kept' : Option Journals) → Appended kept kept' 64 bytes (Err fault.OutOfMemory) → AddsIdentity m text kept kept' ⊎ KeepsJournals kept kept'
-identity_lacked m text bytes kept kept' keeps = inr keeps
-
-pub nothing_added : (m : ℕ) (text : List ℕ) (kept : Option Journals) → AddsIdentity m text kept kept ⊎ KeepsJournals kept kept
-nothing_added m text kept = inr (keeps_same kept)
+pub nothing_each : (m : ℕ) (text : List ℕ) (told : Option History) (end width : ℕ) (shut : Bool) → IsWhole told end shut → IfTold told (λ h. AreSeen (moments h)) → EachLeft (MayAdd m text (told_lists told end width)) width told
+nothing_each m text told end width shut whole seen = each_whole (MayAdd m text (told_lists told end width)) told end width shut whole seen (inr (keeps_same (told_lists told end width)))
 
 -- ---- the record in the file
 
 -- the log had no record, so this one stands alone
-alone-by : (told told' : Option History) (end : ℕ) (bytes : List ℕ) → IfTold told (IsEmptyTo end true) → IfTold told' (λ h. AreSeen (moments h)) → Appends told told' end 64 bytes (Ok tt)
+alone-by : (told told' : Option History) (end end' : ℕ) (shut' : Bool) (bytes : List ℕ) → IfTold told (IsEmptyTo end true) → IfTold told' (λ h. AreSeen (moments h)) → AddsExactly told told' end end' (record { member = 64; bytes = bytes }) (Ok tt) → IsWhole told' end' shut'
     → IfTold told' (HoldsOnly (record { member = 64; bytes = bytes } ∷ []))
-alone-by None told' end bytes empty seen none = subst (λ (t : Option History). IfTold t (HoldsOnly (record { member = 64; bytes = bytes } ∷ []))) (sym none) tt
-alone-by (Some h) told' end bytes empty seen (n, is, a) =
+alone-by None told' end end' shut' bytes empty seen none whole = subst (λ (t : Option History). IfTold t (HoldsOnly (record { member = 64; bytes = bytes } ∷ []))) (sym none) tt
+alone-by (Some h) told' end end' shut' bytes empty seen (n, is, exactly) whole =
     let r : Record = record { member = 64; bytes = bytes } in
-    let here : (image : List ℕ) → IsImage n.now image → counted image ≡ r ∷ [] =
-    λ image im. a.between (λ e. cc) image im ∙ ap (λ (records : List Record). records ++ r ∷ []) (empty.0 refl) in
+    let only : records_to n.now.reads end' ≡ r ∷ [] = exactly ∙ ap (λ (records : List Record). records ++ r ∷ []) (empty.0 refl) in
+    let n-whole : IsWhole (Some n) end' shut' = subst (λ (t : Option History). IsWhole t end' shut') is whole in
+    let here : (image : List ℕ) → IsImage n.now image → counted image ≡ r ∷ [] = λ image im. n-whole.left image im ∙ only in
     subst (λ (t : Option History). IfTold t (HoldsOnly (r ∷ []))) (sym is)
     (record { reads = here n.now.reads (now-seen n (subst (λ (t : Option History). IfTold t (λ h. AreSeen (moments h))) is seen)); crash = here })
 
-appended-alone : (told told' : Option History) (end : ℕ) (bytes : List ℕ) (shut : Bool) (answer : Result (Unit {0}) LogRefusal) → IfTold told (IsEmptyTo end true) → IfTold told' (λ h. AreSeen (moments h))
-    → Ok tt ≡ run_answer answer → (answer ≡ Err log.Shut) ↔ (shut ≡ true) → (shut ≡ false → Appends told told' end 64 bytes answer) → IfTold told' (HoldsOnly (record { member = 64; bytes = bytes } ∷ []))
-appended-alone told told' end bytes true (Ok done) empty seen passed shuts appends = absurd (let e = shuts.1 refl in cc)
-appended-alone told told' end bytes false (Ok done) empty seen passed shuts appends = alone-by told told' end bytes empty seen (appends refl)
-appended-alone told told' end bytes shut (Err log.Shut) empty seen passed shuts appends = absurd (cc)
-appended-alone told told' end bytes shut (Err log.Full) empty seen passed shuts appends = absurd (cc)
-appended-alone told told' end bytes shut (Err log.OutOfMemory) empty seen passed shuts appends = absurd (cc)
-appended-alone told told' end bytes shut (Err log.DiskFault) empty seen passed shuts appends = absurd (cc)
-
-pub identity_alone : (told told' : Option History) (end end' : ℕ) (shut : Bool) (m : ℕ) (text : List ℕ) (genesis : Digest) (bytes : List ℕ) → genesis ≡ genesis_digest text → bytes ≡ identity_bytes m genesis → IfTold told (IsEmptyTo end true) → IfTold told' (λ h. AreSeen (moments h))
-    → IsRunAppend told told' end end' shut 64 bytes (Ok tt) → HasIdentity m text told'
-identity_alone told told' end end' shut m text genesis bytes same are empty seen a =
+pub identity_alone : (told told' : Option History) (end end' : ℕ) (shut' : Bool) (m : ℕ) (text : List ℕ) (genesis : Digest) (bytes : List ℕ) → genesis ≡ genesis_digest text → bytes ≡ identity_bytes m genesis → IfTold told (IsEmptyTo end true) → IfTold told' (λ h. AreSeen (moments h))
+    → AddsExactly told told' end end' (record { member = 64; bytes = bytes }) (Ok tt) → IsWhole told' end' shut' → HasIdentity m text told'
+identity_alone told told' end end' shut' m text genesis bytes same are empty seen exactly whole =
     subst (λ (d : Digest). IfTold told' (HoldsOnly (identity_record m d ∷ []))) same
-    (subst (λ (b : List ℕ). IfTold told' (HoldsOnly (record { member = 64; bytes = b } ∷ []))) are (appended-alone told told' end bytes shut a.answer empty seen a.passed a.shuts a.appends))
+    (subst (λ (b : List ℕ). IfTold told' (HoldsOnly (record { member = 64; bytes = b } ∷ []))) are (alone-by told told' end end' shut' bytes empty seen exactly whole))
 
 -- ---- a status that is not 0
 
@@ -123,21 +115,42 @@ unmade m text held kept kept' w k k' why given is inside keeps cause = inr (inr 
   keeps = keeps;
 }))
 
+pub unmade_same : (m : ℕ) (text : List ℕ) (held : Option (List ℕ)) (kept kept' : Option Journals) (w k k' : ℕ) (why : Stop) (given : Result StartLine Stop) → given ≡ Err why → IsInside why → KeepsJournals kept kept'
+    → (given ≡ Err stop.KeepFault → Rose k k') → EndsLists m text held held kept kept' w w k k' (status_of why)
+unmade_same m text held kept kept' w k k' why given is inside keeps cause = unmade m text held kept kept' w k k' why given is inside (inr keeps) cause
+
+pub unmade_each : (m : ℕ) (text : List ℕ) (held : Option (List ℕ)) (kept : Option Journals) (w k k' : ℕ) (why : Stop) (given : Result StartLine Stop) (width : ℕ) (told : Option History) → given ≡ Err why → IsInside why → (given ≡ Err stop.KeepFault → Rose k k')
+    → EachLeft (MayAdd m text kept) width told → EachLeft (λ lists. EndsLists m text held held kept lists w w k k' (status_of why)) width told
+unmade_each m text held kept w k k' why given width told is inside cause each = each_map width told (λ lists keeps. unmade m text held kept lists w k k' why given is inside keeps cause) each
+
+module _ (m : ℕ) (text : List ℕ) (held held' : Option (List ℕ)) (kept : Option Journals) (w w' k k' status : ℕ) (told : Option History) (end width : ℕ) (shut : Bool) where
+  pub made_each : (line : StartLine) → line ≡ start.Made m (genesis_digest text) → AreFresh kept → AddsIdentity m text kept (told_lists told end width) → IsSaid line held held' w w' status → IsWhole told end shut → IfTold told (λ h. AreSeen (moments h))
+      → EachLeft (λ lists. EndsLists m text held held' kept lists w w' k k' status) width told
+  made_each line is fresh adds said whole seen =
+      each_whole (λ lists. EndsLists m text held held' kept lists w w' k k' status) told end width shut whole seen (made m text held held' kept (told_lists told end width) w w' k k' status line is fresh adds said)
+
 pub full : (m : ℕ) (text : List ℕ) (held held' : Option (List ℕ)) (kept : Option Journals) (w w' k k' status : ℕ) → IsSaid start.NotEmpty held held' w w' status → EndsLists m text held held' kept kept w w' k k' status
 full m text held held' kept w w' k k' status said = inr (inl (record { same = keeps_same kept; said = said }))
+
+pub full_each : (m : ℕ) (text : List ℕ) (held held' : Option (List ℕ)) (w w' k k' status : ℕ) (told : Option History) (end width : ℕ) (shut : Bool) → IsSaid start.NotEmpty held held' w w' status → IsWhole told end shut → IfTold told (λ h. AreSeen (moments h))
+    → EachLeft (λ lists. EndsLists m text held held' (told_lists told end width) lists w w' k k' status) width told
+full_each m text held held' w w' k k' status told end width shut said whole seen =
+    each_whole (λ lists. EndsLists m text held held' (told_lists told end width) lists w w' k k' status) told end width shut whole seen (full m text held held' (told_lists told end width) w w' k k' status said)
 
 -- ---- over a disk
 
 module _ (m : ℕ) (text : List ℕ) (told told' : Option History) (held held' : Option (List ℕ)) (w w' k k' status : ℕ) where
-  pub making : (opened width : ℕ) (first lists : Option Journals) → first ≡ kept_in told → k ≤ opened → EndsLists m text held held' first lists w w' opened k' status → HoldsLists width k' told' lists
-      → (status ≡ 0 → HasIdentity m text told') → EndsMaking m text told told' held held' w w' k k' status
-  making opened width first lists same later ends holds alone = inl (record {
+  pub making : (opened : ℕ) (first : Option Journals) (end end' width : ℕ) (log : Option History) → first ≡ kept_in told → k ≤ opened → EndsLists m text held held' first (told_lists told' end' width) w w' opened k' status
+      → EachLeft (λ lists. EndsLists m text held held' first lists w w' opened k' status) width told' → width ≡ 65 → HasMore log told' end end' k' → (status ≡ 0 → HasIdentity m text told') → EndsMaking m text told told' held held' w w' k k' status
+  making opened first end end' width log same later ends each wide more alone = inl (record {
     opened = opened;
     width = width;
-    lists = lists;
+    lists = told_lists told' end' width;
     later = later;
-    ends = subst (λ (l : Option Journals). EndsLists m text held held' l lists w w' opened k' status) same ends;
-    holds = holds;
+    ends = subst (λ (l : Option Journals). EndsLists m text held held' l (told_lists told' end' width) w w' opened k' status) same ends;
+    holds = held_by told' end' width k' more.holds;
+    each = subst (λ (l : Option Journals). EachLeft (λ lists. EndsLists m text held held' l lists w w' opened k' status) 65 told') same
+        (each_wide (λ lists. EndsLists m text held held' first lists w w' opened k' status) width 65 told' wide each);
     alone = alone;
   })
 

@@ -3,7 +3,7 @@ use Rattle.std.proofs.Common.{◌≡◌, Option, None, refl}
 use Rattle.std.specs.Prelude.{Some}
 use Rattle.protocol_spec.specs.Chain.Certificates.{Rules}
 use Rattle.protocol_spec.specs.Member.Calls.{Call}
-use Rattle.scene_spec.specs.Seats.{Seated, rules_of_seat}
+use Rattle.world_spec.specs.Seats.{Seated, rules_of_seat}
 use Rattle.world_core.specs.Replies.{Accepting}
 use Rattle.process_lines.specs.declared.request.Request.{Request}
 use Rattle.validator_process.specs.Moves.{IsLook, IsNone, call_of, due_by, due_for, moved, moved_by}

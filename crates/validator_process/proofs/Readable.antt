@@ -7,8 +7,8 @@ use Rattle.wire_bcs.specs.Place.{IsBytes}
 use Rattle.digest_core.specs.declared.Digest.{Digest}
 use Rattle.schedule_text.specs.Bytes.{number_in}
 use Rattle.schedule_text.specs.Inputs.{hex_of, is_hex}
-use Rattle.text_law.specs.Sayable.{IsByte}
-use Rattle.text_law.proofs.SaidWords.{hex_said}
+use Rattle.run_law.specs.Sayable.{IsByte}
+use Rattle.run_law.proofs.SaidWords.{hex_said}
 use Rattle.protocol_spec.proofs.ListLemmas.{each_as}
 use Rattle.protocol_spec.specs.Chain.Words.{Each}
 use Rattle.process_lines.specs.declared.request.Request.{Request}
@@ -18,7 +18,7 @@ use Rattle.process_lines.specs.Requests.{bytes_in, digest_in, number_of_word, re
 use Rattle.lives_law.specs.Files.{IsReadable}
 use Rattle.validator_process.specs.Living.{asked_in}
 use Rattle.validator_process.specs.Serving.{request_in}
-use Rattle.text_law.proofs.Words.{bytes_by_index}
+use Rattle.run_law.proofs.Words.{bytes_by_index}
 
 -- bytes that a word encodes, and no more than half as many
 record AreIn (word bytes : List ℕ) : Type 0 where
@@ -47,9 +47,6 @@ Fine q = Each IsReadable (asked_in q)
 fine-if : (b : Bool) (x y : Option Request) → Fine x → Fine y → Fine (cond b x y)
 fine-if true x y p q = p
 fine-if false x y p q = q
-
-none-fine : Fine None
-none-fine = tt
 
 vote-fine : (o : Option (List ℕ)) → ((bytes : List ℕ) → o ≡ Some bytes → IsBytes bytes) → Fine (option_map request.Vote o)
 vote-fine None are = tt

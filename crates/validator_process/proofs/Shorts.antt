@@ -8,11 +8,11 @@ use Rattle.chain_messages.specs.declared.messages.Statement.{Statement}
 use Rattle.chain_messages.specs.declared.messages.Statement.TheVariants as statement
 use Rattle.chain_messages.specs.Messages as messages
 use Rattle.effects_core.specs.Effects.{digest_of_effects}
-use Rattle.answer_types.specs.declared.answers.Voted.{Voted as Sent}
-use Rattle.answer_types.specs.declared.refusals.AckRefusal.{AckRefusal}
-use Rattle.answer_types.specs.declared.refusals.AckRefusal.TheVariants as no_ack
-use Rattle.answer_types.specs.declared.refusals.EndRefusal.{EndRefusal}
-use Rattle.answer_types.specs.declared.refusals.VoteRefusal.{VoteRefusal}
+use Rattle.protocol_spec.specs.declared.answers.Voted.{Voted as Sent}
+use Rattle.protocol_spec.specs.declared.refusals.AckRefusal.{AckRefusal}
+use Rattle.protocol_spec.specs.declared.refusals.AckRefusal.TheVariants as no_ack
+use Rattle.protocol_spec.specs.declared.refusals.EndRefusal.{EndRefusal}
+use Rattle.protocol_spec.specs.declared.refusals.VoteRefusal.{VoteRefusal}
 use Rattle.protocol_spec.specs.Chain.Certificates.{Rules}
 use Rattle.protocol_spec.specs.Chain.Words.{first_some, refused_or, unless_refused}
 use Rattle.protocol_spec.specs.Member.Calls.{ack_answer, acknowledged, end_answer, end_cases, halted}

@@ -2,8 +2,8 @@
 use Rattle.std.proofs.Common.{ℕ, Option, sym, ap, ◌∙◌}
 use Rattle.std.specs.Prelude.{Ok, Err}
 use Rattle.outside.specs.Lists.{Journals}
-use Rattle.scene_spec.specs.Scene.{Scene, rules_in}
-use Rattle.scene_spec.specs.Seats.{Seated}
+use Rattle.world_spec.specs.Scene.{Scene, rules_in}
+use Rattle.world_spec.specs.Seats.{Seated}
 use Rattle.world_core.specs.Replies.{Accepting}
 use Rattle.world_core.specs.declared.replay.Replayed.{Replayed}
 use Rattle.world_core.specs.Replays.{IsReplayed}

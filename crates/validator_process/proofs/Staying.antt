@@ -7,8 +7,8 @@ use Rattle.disk_log.specs.Running.{IsUnchanged, Unchanged}
 use Rattle.disk_log.proofs.Moments.{settled-image}
 use Rattle.schedule_text.specs.Schedule.{longest_text}
 use Rattle.protocol_spec.specs.Chain.Words.{Each, IsFront}
-use Rattle.scene_spec.specs.Scene.{Scene}
-use Rattle.text_law.proofs.Members.{tagged-digest}
+use Rattle.world_spec.specs.Scene.{Scene}
+use Rattle.run_law.proofs.Members.{tagged-digest}
 use Rattle.lives_law.specs.Files.{Follows, IsLeft}
 use Rattle.validator_process.specs.Ending.{EndsJournal, EndsText, program_trust}
 use Rattle.validator_process.specs.FirstStart.{HasMade}

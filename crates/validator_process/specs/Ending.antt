@@ -11,8 +11,8 @@ use Rattle.world_spec.specs.Keyed.{keyed, program_secret}
 use Rattle.world_spec.specs.Setting.{Trust}
 use Rattle.outside.specs.Streams.{AppendsFront, ReadsText}
 use Rattle.schedule_text.specs.Schedule.{longest_text}
-use Rattle.scene_spec.specs.Scene.{Scene}
-use Rattle.scene_spec.specs.Seats.{Seated}
+use Rattle.world_spec.specs.Scene.{Scene}
+use Rattle.world_spec.specs.Seats.{Seated}
 use Rattle.world_core.specs.Replies.{Accepting}
 use Rattle.process_lines.specs.declared.starts.StartLine.{StartLine}
 use Rattle.process_lines.specs.declared.starts.StartLine.TheVariants as start
@@ -27,9 +27,9 @@ use Rattle.validator_process.specs.declared.stop.Stop.TheVariants as stop
 use Rattle.validator_process.specs.declared.words.Task.{Task}
 use Rattle.validator_process.specs.declared.words.Task.TheVariants as task
 use Rattle.validator_process.specs.Genesis.{genesis_of, line_status}
-use Rattle.validator_process.specs.Growing.{LeavesFirst, counted_in}
+use Rattle.validator_process.specs.Growing.{EachLeft, LeavesFirst, counted_in}
 use Rattle.validator_process.specs.Identity.{genesis_digest, head_of_file, identity_bytes, identity_record}
-use Rattle.validator_process.specs.Starting.{IsInside, LivesCut, LivesUnwritten, LivesWhole, StartsAs, start_bytes}
+use Rattle.validator_process.specs.Starting.{IsInside, LivesCut, LivesWhole, StartsAs, start_bytes}
 use Rattle.validator_process.specs.Stops.{status_of}
 
 -- ---- faults
@@ -85,17 +85,16 @@ pub record LivedWhole (accepts : Accepting) (scene : Scene) (m : ℕ) (left left
   pub lives : LivesWhole accepts seat left left' held held' mid kept'
   pub ends : status ≡ 0
 
--- it started, and was cut; if the sink did so, at a line that it was handed
+-- it started, and was cut: by the sink at a line that it was handed, by the journal at a line whose record is due
 pub record LivedCut (accepts : Accepting) (scene : Scene) (m : ℕ) (left left' held held' : Option (List ℕ)) (kept kept' : Option Journals) (r r' w w' k k' status : ℕ) : Type 0 where
   pub seat : Seated
   pub mid : Option Journals
   pub why : Stop
   pub starts : StartsAs accepts scene m kept (Ok seat)
   pub same : KeepsJournals kept mid
-  pub lives : LivesCut accepts seat left left' held held' mid kept'
+  pub lives : LivesCut accepts why seat left left' held held' mid kept'
   pub ends : status ≡ status_of why
   pub cause : HasCause why r r' w w' k k'
-  pub handed : why ≡ stop.WriteFault → LivesUnwritten accepts seat left left' held held' mid kept'
 
 -- it did not start: a record is bad, and a line says so
 pub record IsRefusedStart (accepts : Accepting) (scene : Scene) (m : ℕ) (left left' held held' : Option (List ℕ)) (kept kept' : Option Journals) (w w' status : ℕ) : Type 0 where
@@ -133,14 +132,16 @@ abbrev pub IsUnopenedBy : Unopened → Option History → ℕ → ℕ → Type 0
 IsUnopenedBy unopened.BadList told k k' = IfTold told (λ h. (at : ℕ) × (bad_member 65 0 (counted h.now.reads) ≡ Some at))
 IsUnopenedBy (unopened.Stopped why) told k k' = IsInside why × (why ≡ stop.KeepFault → Rose k k')
 
--- a life over the lists of an open log ended: the disk holds the lists that it left, and the records of the opening are the
--- first in each file that is left
+-- A life over the lists of an open log ended: the disk holds the lists that it left, and the records of the opening are the
+-- first in each file that is left. In each such file the lists of the records that count are lists with which the life may have
+-- ended so: after a fault of the disk a record more is the one that was due.
 pub record EndsLog (first : List Record) (accepts : Accepting) (scene : Scene) (m : ℕ) (told' : Option History) (left left' held held' : Option (List ℕ)) (kept : Option Journals) (r r' w w' k k' status : ℕ) : Type 0 where
   pub width : ℕ
   pub lists : Option Journals
   pub ends : EndsLife accepts scene m left left' held held' kept lists r r' w w' k k' status
   pub holds : HoldsLists width k' told' lists
   pub grows : IfTold told' (LeavesFirst first)
+  pub each : EachLeft (λ left_lists. EndsLife accepts scene m left left' held held' kept left_lists r r' w w' k k' status) 65 told'
 
 -- the journal was opened, and the life over it ended
 pub record IsLife (accepts : Accepting) (scene : Scene) (m : ℕ) (told told' : Option History) (left left' held held' : Option (List ℕ)) (r r' w w' k k' status : ℕ) : Type 0 where
@@ -262,7 +263,8 @@ pub record HoldsOnly (records : List Record) (h : History) : Type 0 where
 abbrev pub HasIdentity : ℕ → List ℕ → Option History → Type 0
 HasIdentity m text told = IfTold told (HoldsOnly (identity_record m (genesis_digest text) ∷ []))
 
--- the journal was opened, and the disk holds the lists that were left; at 0 that record stands alone
+-- the journal was opened, and the disk holds the lists that were left, in each file that is left such as the making may leave; at 0
+-- that record stands alone
 pub record IsMaking (m : ℕ) (text : List ℕ) (told told' : Option History) (held held' : Option (List ℕ)) (w w' k k' status : ℕ) : Type 0 where
   pub opened : ℕ
   pub width : ℕ
@@ -270,6 +272,7 @@ pub record IsMaking (m : ℕ) (text : List ℕ) (told told' : Option History) (h
   pub later : k ≤ opened
   pub ends : EndsLists m text held held' (kept_in told) lists w w' opened k' status
   pub holds : HoldsLists width k' told' lists
+  pub each : EachLeft (λ left_lists. EndsLists m text held held' (kept_in told) left_lists w w' opened k' status) 65 told'
   pub alone : status ≡ 0 → HasIdentity m text told'
 
 abbrev pub EndsMaking : ℕ → List ℕ → Option History → Option History → Option (List ℕ) → Option (List ℕ) → ℕ → ℕ → ℕ → ℕ → ℕ → Type 0

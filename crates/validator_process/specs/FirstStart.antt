@@ -2,7 +2,7 @@
 use Rattle.std.specs.Prelude.{◌≡◌, ◌⊎◌, ◌≤◌, ℕ, List, [], length, Option, Some, Ok}
 use Rattle.outside.specs.Lists.{Journals}
 use Rattle.schedule_text.specs.Schedule.{longest_text}
-use Rattle.scene_spec.specs.Scene.{Scene}
+use Rattle.world_spec.specs.Scene.{Scene}
 use Rattle.lives_law.specs.Files.{Follows, kept_of}
 use Rattle.validator_process.specs.declared.stop.Stop.{Stop}
 use Rattle.validator_process.specs.declared.words.Task.TheVariants as task

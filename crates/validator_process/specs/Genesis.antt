@@ -2,20 +2,18 @@
 use Rattle.std.specs.Prelude.{◌==◌, ℕ, List, length, slice_get, Result, Ok, Err, if◌then◌else◌}
 use Rattle.schedule_text.specs.declared.words.Schedule.{Schedule}
 use Rattle.schedule_text.specs.Schedule.{Refused, schedule_of}
-use Rattle.answer_types.specs.declared.refusals.StartRefusal.{StartRefusal}
-use Rattle.answer_types.specs.declared.refusals.StartRefusal.TheVariants as no_start
+use Rattle.protocol_spec.specs.declared.refusals.StartRefusal.{StartRefusal}
+use Rattle.protocol_spec.specs.declared.refusals.StartRefusal.TheVariants as no_start
 use Rattle.protocol_spec.specs.Member.Member.{Member, built}
 use Rattle.world_spec.specs.Setting.{Trust, setting_of}
-use Rattle.scene_spec.specs.Posts.{seat_at}
-use Rattle.scene_spec.specs.Scene.{Scene, new_scene, rules_in}
-use Rattle.scene_spec.specs.Seats.{Seated}
-use Rattle.scene_spec.specs.Starts.{started}
+use Rattle.world_spec.specs.Posts.{seat_at}
+use Rattle.world_spec.specs.Scene.{Scene, new_scene, rules_in}
+use Rattle.world_spec.specs.Seats.{Seated}
+use Rattle.world_spec.specs.Starts.{started}
 use Rattle.world_core.specs.Crews.{honest_post}
 use Rattle.world_core.specs.Replies.{Accepting}
 use Rattle.process_lines.specs.declared.starts.StartLine.{StartLine}
 use Rattle.process_lines.specs.declared.starts.StartLine.TheVariants as start
-use Rattle.validator_process.specs.declared.identity.Head.{Head}
-use Rattle.validator_process.specs.declared.identity.Head.TheVariants as head
 
 -- ---- the set-up
 
@@ -45,25 +43,9 @@ member_started scene m (Err no_start.OutOfMemory) = Err start.NotMade
 abbrev pub started_in : Accepting → Scene → ℕ → List (List ℕ) → Result Seated StartLine
 started_in accepts scene m records = member_started scene m (started (rules_in accepts scene) scene.opening records)
 
--- the first bytes of the journal are those of this member and this set-up
-abbrev pub head_checked : Head → Result Seated StartLine → Result Seated StartLine
-head_checked head.Own said = said
-head_checked head.Unmade said = Err start.NotMade
-head_checked head.OtherMember said = Err start.OtherMember
-head_checked head.OtherGenesis said = Err start.OtherGenesis
-
--- the member as it starts, or why it does not
-abbrev pub begun : Accepting → ℕ → Result Scene StartLine → Head → List (List ℕ) → Result Seated StartLine
-begun accepts m (Err line) h records = Err line
-begun accepts m (Ok scene) h records = head_checked h (started_in accepts scene m records)
-
 -- the line that says where a member starts from
 abbrev pub ready_line : Seated → StartLine
 ready_line seat = start.Ready seat.member seat.state.epoch seat.state.sequence.number (length (built seat.state)) seat.state.records
-
-abbrev pub line_of : Result Seated StartLine → StartLine
-line_of (Ok seat) = ready_line seat
-line_of (Err line) = line
 
 -- the status of a line that refuses a start
 abbrev pub line_status : StartLine → ℕ

@@ -1,7 +1,10 @@
--- The records that counted when a log was opened, and what a file has of them later. Source: this profile.
-use Rattle.std.specs.Prelude.{ℕ, List, [], Option, Some, None}
-use Rattle.disk_log.specs.Disk.{History}
-use Rattle.disk_log.specs.Records.{Record, counted, records_to}
+-- The log of a process: the records that counted when it was opened, what it has of them later, and what is in each file that is left.
+use Rattle.std.specs.Prelude.{◌≡◌, ◌⊎◌, ℕ, Bool, false, List, [], Option, Some, None}
+use Rattle.outside.specs.Lists.{AddsRecord, Journals, KeepsJournals}
+use Rattle.disk_log.specs.Disk.{History, IfTold}
+use Rattle.disk_log.specs.Keeping.{LeavesRecords}
+use Rattle.disk_log.specs.Records.{Record, counted, journals_of, records_to}
+use Rattle.disk_log.specs.Running.{HoldsTo}
 use Rattle.protocol_spec.specs.Chain.Words.{IsFront}
 use Rattle.lives_law.specs.Files.{IsLeft}
 
@@ -15,10 +18,42 @@ abbrev pub records_in : Option History → ℕ → List Record
 records_in None end = []
 records_in (Some h) end = records_to h.now.reads end
 
--- the first records up to a gate are these
-abbrev pub BeginsTo : List Record → ℕ → History → Type 0
-BeginsTo first end h = IsFront first (records_to h.now.reads end)
-
--- so they are in each file that is left
+-- these records are the first in each file that is left
 abbrev pub LeavesFirst : List Record → History → Type 0
 LeavesFirst first h = (file : List ℕ) → IsLeft h file → IsFront first (counted file)
+
+-- ---- a log
+
+-- no append met a fault: in each file that a crash may leave now the records up to the gate count, and no others
+pub record IsWhole (told : Option History) (end : ℕ) (shut : Bool) : Type 0 where
+  pub goes : shut ≡ false
+  pub left : IfTold told (λ h. LeavesRecords h (records_to h.now.reads end))
+
+-- the records up to the gate are those before, and perhaps more, and the disk holds them
+pub record HasMore (told told' : Option History) (end end' faults : ℕ) : Type 0 where
+  pub first : IsFront (records_in told end) (records_in told' end')
+  pub holds : IfTold told' (HoldsTo faults end')
+
+-- ---- what is left of it
+
+-- in each file that is left now, the lists of the records that count are such
+abbrev pub EachLeft : (Option Journals → Type 0) → ℕ → Option History → Type 0
+EachLeft P width None = Unit {0}
+EachLeft P width (Some h) = (file : List ℕ) → IsLeft h file → P (Some (journals_of width (counted file)))
+
+-- the lists grow by the record whose bytes are due, if one is
+abbrev pub AddsDue : Option Journals → Option Journals → ℕ → Option (List ℕ) → Type 0
+AddsDue before now m None = KeepsJournals before now
+AddsDue before now m (Some bytes) = AddsRecord before now m bytes
+
+abbrev pub MayAddDue : Option Journals → Option Journals → ℕ → Option (List ℕ) → Type 0
+MayAddDue before now m due = AddsDue before now m due ⊎ KeepsJournals before now
+
+-- ---- a log that is only read
+
+-- the moments of its disk, its gate, its counts and whether it is shut are these
+pub record StandsAs (told : Option History) (end : ℕ) (counts : List ℕ) (shut : Bool) (told' : Option History) (end' : ℕ) (counts' : List ℕ) (shut' : Bool) : Type 0 where
+  pub history : told ≡ told'
+  pub gate : end ≡ end'
+  pub sizes : counts ≡ counts'
+  pub goes : shut ≡ shut'

@@ -5,8 +5,8 @@ use Rattle.std.specs.Io.KnownBytes.{Appends}
 use Rattle.outside.specs.Streams.{AppendsFront}
 use Rattle.schedule_text.specs.Schedule.{longest_text}
 use Rattle.protocol_spec.specs.Chain.Words.{IsFront}
-use Rattle.scene_spec.specs.Scene.{Scene}
-use Rattle.scene_spec.specs.Seats.{Seated}
+use Rattle.world_spec.specs.Scene.{Scene}
+use Rattle.world_spec.specs.Seats.{Seated}
 use Rattle.process_lines.specs.declared.starts.StartLine.{StartLine}
 use Rattle.lives_law.specs.Files.{IsLeft, kept_of}
 use Rattle.validator_process.specs.Ending.{program_trust}

@@ -5,9 +5,9 @@ use Rattle.outside.specs.Streams.{AppendsFront}
 use Rattle.disk_log.specs.Disk.{History, IsQuiet}
 use Rattle.schedule_text.specs.Schedule.{longest_text}
 use Rattle.protocol_spec.specs.Member.Calls.{Call, acks, closes, ends, holds, runs, sees, turns, votes}
-use Rattle.scene_spec.specs.Posts.{list_of}
-use Rattle.scene_spec.specs.Scene.{Scene, rules_in}
-use Rattle.scene_spec.specs.Seats.{Seated}
+use Rattle.world_spec.specs.Posts.{list_of}
+use Rattle.world_spec.specs.Scene.{Scene, rules_in}
+use Rattle.world_spec.specs.Seats.{Seated}
 use Rattle.world_core.specs.Replies.{Accepting}
 use Rattle.process_lines.specs.declared.request.Request.{Request}
 use Rattle.process_lines.specs.declared.request.Request.TheVariants as request

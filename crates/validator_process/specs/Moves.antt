@@ -3,8 +3,8 @@ use Rattle.std.specs.Prelude.{Option, Some, None}
 use Rattle.journal_core.specs.declared.records.Record.{Record}
 use Rattle.protocol_spec.specs.Chain.Certificates.{Rules}
 use Rattle.protocol_spec.specs.Member.Calls.{Call, closes, due, holds, runs, sees, turns, votes}
-use Rattle.scene_spec.specs.Posts.{seat_behind}
-use Rattle.scene_spec.specs.Seats.{Seated, rules_of_seat}
+use Rattle.world_spec.specs.Posts.{seat_behind}
+use Rattle.world_spec.specs.Seats.{Seated, rules_of_seat}
 use Rattle.world_core.specs.Replies.{Accepting}
 use Rattle.process_lines.specs.declared.request.Request.{Request}
 use Rattle.process_lines.specs.declared.request.Request.TheVariants as request

@@ -11,26 +11,26 @@ use Rattle.chain_messages.specs.declared.messages.Statement.TheVariants as state
 use Rattle.checkpoint_core.specs.declared.checkpoints.Checkpoint.{Checkpoint}
 use Rattle.checkpoint_core.specs.Checkpoints.{digest_of_checkpoint}
 use Rattle.effects_core.specs.declared.effects.Effects.{Effects}
-use Rattle.answer_types.specs.declared.answers.Held.{Held}
-use Rattle.answer_types.specs.declared.answers.Ran.{Ran}
-use Rattle.answer_types.specs.declared.answers.Seen.{Seen}
-use Rattle.answer_types.specs.declared.answers.Voted.{Voted as Sent}
-use Rattle.answer_types.specs.declared.refusals.AckRefusal.{AckRefusal}
-use Rattle.answer_types.specs.declared.refusals.AckRefusal.TheVariants as no_ack
-use Rattle.answer_types.specs.declared.refusals.CloseRefusal.{CloseRefusal}
-use Rattle.answer_types.specs.declared.refusals.EndRefusal.{EndRefusal}
-use Rattle.answer_types.specs.declared.refusals.EndRefusal.TheVariants as no_end
-use Rattle.answer_types.specs.declared.refusals.HoldRefusal.{HoldRefusal}
-use Rattle.answer_types.specs.declared.refusals.RunRefusal.{RunRefusal}
-use Rattle.answer_types.specs.declared.refusals.SeeRefusal.{SeeRefusal}
-use Rattle.answer_types.specs.declared.refusals.TurnRefusal.{TurnRefusal}
-use Rattle.answer_types.specs.declared.refusals.VoteRefusal.{VoteRefusal}
+use Rattle.protocol_spec.specs.declared.answers.Held.{Held}
+use Rattle.protocol_spec.specs.declared.answers.Ran.{Ran}
+use Rattle.protocol_spec.specs.declared.answers.Seen.{Seen}
+use Rattle.protocol_spec.specs.declared.answers.Voted.{Voted as Sent}
+use Rattle.protocol_spec.specs.declared.refusals.AckRefusal.{AckRefusal}
+use Rattle.protocol_spec.specs.declared.refusals.AckRefusal.TheVariants as no_ack
+use Rattle.protocol_spec.specs.declared.refusals.CloseRefusal.{CloseRefusal}
+use Rattle.protocol_spec.specs.declared.refusals.EndRefusal.{EndRefusal}
+use Rattle.protocol_spec.specs.declared.refusals.EndRefusal.TheVariants as no_end
+use Rattle.protocol_spec.specs.declared.refusals.HoldRefusal.{HoldRefusal}
+use Rattle.protocol_spec.specs.declared.refusals.RunRefusal.{RunRefusal}
+use Rattle.protocol_spec.specs.declared.refusals.SeeRefusal.{SeeRefusal}
+use Rattle.protocol_spec.specs.declared.refusals.TurnRefusal.{TurnRefusal}
+use Rattle.protocol_spec.specs.declared.refusals.VoteRefusal.{VoteRefusal}
 use Rattle.protocol_spec.specs.Chain.Certificates.{read_certificate}
 use Rattle.protocol_spec.specs.Member.Calls.{Voted, ack_answer, called, close_answer, effects_of, end_answer, hold_answer, run_answer, see_answer, turn_answer, turns, vote_answer}
 use Rattle.protocol_spec.specs.Member.Member.{Member, built, fork_of, live_objects}
 use Rattle.protocol_spec.specs.Member.Versions.{execution_of, live, object_in, version_at, versions}
 use Rattle.world_spec.specs.Step.{executed_digest}
-use Rattle.scene_spec.specs.Seats.{Seated, rules_of_seat}
+use Rattle.world_spec.specs.Seats.{Seated, rules_of_seat}
 use Rattle.validator_core.specs.Calls.{Acks, Ends, IsSealedBy}
 use Rattle.world_core.specs.Replies.{Accepting}
 use Rattle.process_lines.specs.declared.looks.Counts.{Counts}

@@ -1,5 +1,5 @@
 -- Lines that are answered one after the other, and what is left if a fault cuts them. Source: this profile.
-use Rattle.std.specs.Prelude.{◌≡◌, ◌⊎◌, ℕ, nat_le, Bool, true, false, List, [], ◌∷◌, ◌++◌, fold, length, Option, Some, None, if◌then◌else◌}
+use Rattle.std.specs.Prelude.{◌≡◌, ◌⊎◌, ℕ, nat_le, Bool, true, false, is_some, List, [], ◌∷◌, ◌++◌, fold, length, Option, Some, None, if◌then◌else◌}
 use Rattle.std.specs.List.{flat_map}
 use Rattle.std.specs.Io.KnownBytes.{Appends, Consumes, Keeps}
 use Rattle.outside.specs.Lists.{Journals, KeepsJournals, with_record}
@@ -7,13 +7,15 @@ use Rattle.outside.specs.Streams.{AppendsFront}
 use Rattle.journal_core.specs.declared.records.Record.{Record}
 use Rattle.journal_core.specs.Records as journals
 use Rattle.protocol_spec.specs.Chain.Words.{Each}
-use Rattle.scene_spec.specs.Posts.{AddsLeft, MayAddLeft}
-use Rattle.scene_spec.specs.Seats.{Seated}
+use Rattle.world_spec.specs.Posts.{AddsLeft, MayAddLeft}
+use Rattle.world_spec.specs.Seats.{Seated}
 use Rattle.world_core.specs.Replies.{Accepting}
 use Rattle.process_lines.specs.declared.request.Request.{Request}
 use Rattle.process_lines.specs.Lines.{HasNoEnd, ReadsEnd, ReadsLine, longest_line}
 use Rattle.process_lines.specs.Requests.{request_of}
 use Rattle.process_lines.specs.Texts.{bad_request_text}
+use Rattle.validator_process.specs.declared.stop.Stop.{Stop}
+use Rattle.validator_process.specs.declared.stop.Stop.TheVariants as stop
 use Rattle.validator_process.specs.Moves.{due_for, moved}
 use Rattle.validator_process.specs.Says.{Says}
 
@@ -130,6 +132,13 @@ pub record IsHalfSaid (accepts : Accepting) (q : Option Request) (held held' : O
   pub writes : AppendsFront held held' text
   pub keeps : AddsLeft kept kept' seat.member (due_for_request accepts seat q)
 
+-- a stop ended it so; a fault of the journal comes only if a record is due
+abbrev pub IsStoppedBy : Accepting → Stop → Option Request → Option (List ℕ) → Option (List ℕ) → Option Journals → Option Journals → Seated → Type 0
+IsStoppedBy accepts stop.ReadFault q held held' kept kept' seat = ⊥
+IsStoppedBy accepts stop.WriteFault q held held' kept kept' seat = IsHalfSaid accepts q held held' kept kept' seat
+IsStoppedBy accepts stop.KeepFault q held held' kept kept' seat = IsRefused accepts q held held' kept kept' seat × (is_some (due_for_request accepts seat q) ≡ true)
+IsStoppedBy accepts stop.OutOfMemory q held held' kept kept' seat = IsRefused accepts q held held' kept kept' seat ⊎ IsHalfSaid accepts q held held' kept kept' seat
+
 -- a line is read, answered and written, and its record is kept
 pub record ServesOne (accepts : Accepting) (x : Exchange) (old new : Around) : Type 0 where
   pub reads : ReadsLine old.pending new.pending old.left new.left x.line
@@ -162,6 +171,14 @@ pub record IsUnanswered (accepts : Accepting) (old new : Around) : Type 0 where
   pub writes : Keeps old.held new.held
   pub keeps : MayAddLeft old.kept new.kept old.seat.member (due_for_line accepts old.seat line)
 
+-- it was read, its record is due, and the journal met a fault: nothing was written, and the record may be kept
+pub record IsUnkept (accepts : Accepting) (old new : Around) : Type 0 where
+  pub line : List ℕ
+  pub reads : ReadsLine old.pending new.pending old.left new.left line
+  pub owed : is_some (due_for_line accepts old.seat line) ≡ true
+  pub writes : Keeps old.held new.held
+  pub keeps : MayAddLeft old.kept new.kept old.seat.member (due_for_line accepts old.seat line)
+
 -- it was answered, and a prefix of the answer was written: its record is kept
 pub record IsUnwritten (accepts : Accepting) (old new : Around) : Type 0 where
   pub exchange : Exchange
@@ -172,6 +189,13 @@ pub record IsUnwritten (accepts : Accepting) (old new : Around) : Type 0 where
 
 abbrev pub IsCutAt : Accepting → Around → Around → Type 0
 IsCutAt accepts old new = IsUnread old new ⊎ IsUnanswered accepts old new ⊎ IsUnwritten accepts old new
+
+-- how it was cut, by the stop
+abbrev pub IsCutBy : Accepting → Stop → Around → Around → Type 0
+IsCutBy accepts stop.ReadFault old new = IsUnread old new
+IsCutBy accepts stop.WriteFault old new = IsUnwritten accepts old new
+IsCutBy accepts stop.KeepFault old new = IsUnkept accepts old new
+IsCutBy accepts stop.OutOfMemory old new = IsCutAt accepts old new
 
 -- ---- a whole life
 
@@ -184,16 +208,9 @@ pub record ServesAll (accepts : Accepting) (old new : Around) : Type 0 where
   pub writes : new.held ≡ last.held
   pub keeps : new.kept ≡ last.kept
 
--- it was cut: some lines were served, and one more in part
-pub record ServesSome (accepts : Accepting) (old new : Around) : Type 0 where
+-- a stop cut it: some lines were served, and one more in part
+pub record ServesSome (accepts : Accepting) (why : Stop) (old new : Around) : Type 0 where
   pub exchanges : List Exchange
   pub last : Around
   pub serves : Serves accepts exchanges old last
-  pub cut : IsCutAt accepts last new
-
--- the sink did not take an answer that it was handed: the lines before it were served, and its record is kept
-pub record ServesHanded (accepts : Accepting) (old new : Around) : Type 0 where
-  pub exchanges : List Exchange
-  pub last : Around
-  pub serves : Serves accepts exchanges old last
-  pub handed : IsUnwritten accepts last new
+  pub cut : IsCutBy accepts why last new

@@ -5,8 +5,8 @@ use Rattle.outside.specs.Lists.{Journals, KeepsJournals}
 use Rattle.outside.specs.Streams.{AppendsFront}
 use Rattle.schedule_text.specs.declared.words.Schedule.{Schedule}
 use Rattle.schedule_text.specs.Schedule.{Refused}
-use Rattle.scene_spec.specs.Scene.{Scene}
-use Rattle.scene_spec.specs.Seats.{Seated}
+use Rattle.world_spec.specs.Scene.{Scene}
+use Rattle.world_spec.specs.Seats.{Seated}
 use Rattle.world_spec.specs.Setting.{Trust}
 use Rattle.world_core.specs.Replies.{Accepting}
 use Rattle.world_core.specs.SeatRestarts.{IsJournal}
@@ -17,7 +17,7 @@ use Rattle.validator_process.specs.declared.reading.Unstarted.TheVariants as uns
 use Rattle.validator_process.specs.declared.stop.Stop.{Stop}
 use Rattle.validator_process.specs.declared.stop.Stop.TheVariants as stop
 use Rattle.validator_process.specs.Genesis.{ready_line, scene_of, started_in}
-use Rattle.validator_process.specs.Serving.{ServesAll, ServesHanded, ServesSome, around, ended}
+use Rattle.validator_process.specs.Serving.{ServesAll, ServesSome, around, ended}
 
 -- a stop that is none of a stream
 abbrev pub IsInside : Stop → Type 0
@@ -36,11 +36,6 @@ abbrev pub OpensAs : Result Scene StartLine → Result Scene Unstarted → Type 
 OpensAs said (Ok scene) = said ≡ Ok scene
 OpensAs said (Err (unstarted.Refused line)) = said ≡ Err line
 OpensAs said (Err (unstarted.Stopped why)) = why ≡ stop.OutOfMemory
-
-abbrev pub BeginsAs : Result Seated StartLine → Result Seated Unstarted → Type 0
-BeginsAs said (Ok seat) = said ≡ Ok seat
-BeginsAs said (Err (unstarted.Refused line)) = said ≡ Err line
-BeginsAs said (Err (unstarted.Stopped why)) = IsInside why
 
 -- ---- from the records of a keeper
 
@@ -63,32 +58,29 @@ pub record LivesWhole (accepts : Accepting) (seat : Seated) (left left' held hel
   pub ready : Appends held said (start_bytes (ready_line seat))
   pub serves : ServesAll accepts (around [] left said kept seat) (around pending left' held' kept' last)
 
--- it said so, and served some lines
-pub record LivesSome (accepts : Accepting) (seat : Seated) (left left' held held' : Option (List ℕ)) (kept kept' : Option Journals) : Type 0 where
+-- it said so, and served some lines until a stop
+pub record LivesSome (accepts : Accepting) (why : Stop) (seat : Seated) (left left' held held' : Option (List ℕ)) (kept kept' : Option Journals) : Type 0 where
   pub said : Option (List ℕ)
   pub pending : List ℕ
   pub last : Seated
   pub ready : Appends held said (start_bytes (ready_line seat))
-  pub serves : ServesSome accepts (around [] left said kept seat) (around pending left' held' kept' last)
+  pub serves : ServesSome accepts why (around [] left said kept seat) (around pending left' held' kept' last)
+
+-- a stop that the writing of a line may meet
+abbrev pub IsOfLine : Stop → Type 0
+IsOfLine stop.ReadFault = ⊥
+IsOfLine stop.WriteFault = Unit {0}
+IsOfLine stop.KeepFault = ⊥
+IsOfLine stop.OutOfMemory = Unit {0}
 
 -- a prefix of a first line is written, and nothing is read and kept
-pub record SaysFront (line : StartLine) (left left' held held' : Option (List ℕ)) (kept kept' : Option Journals) : Type 0 where
+pub record SaysFront (why : Stop) (line : StartLine) (left left' held held' : Option (List ℕ)) (kept kept' : Option Journals) : Type 0 where
+  pub by : IsOfLine why
   pub unread : left' ≡ left
   pub writes : AppendsFront held held' (start_bytes line)
   pub keeps : KeepsJournals kept kept'
 
-abbrev pub LivesCut : Accepting → Seated → Option (List ℕ) → Option (List ℕ) → Option (List ℕ) → Option (List ℕ) → Option Journals → Option Journals → Type 0
-LivesCut accepts seat left left' held held' kept kept' =
-    SaysFront (ready_line seat) left left' held held' kept kept' ⊎ LivesSome accepts seat left left' held held' kept kept'
-
--- it said so, and the sink did not take an answer that it was handed
-pub record LivesHanded (accepts : Accepting) (seat : Seated) (left left' held held' : Option (List ℕ)) (kept kept' : Option Journals) : Type 0 where
-  pub said : Option (List ℕ)
-  pub pending : List ℕ
-  pub last : Seated
-  pub ready : Appends held said (start_bytes (ready_line seat))
-  pub serves : ServesHanded accepts (around [] left said kept seat) (around pending left' held' kept' last)
-
-abbrev pub LivesUnwritten : Accepting → Seated → Option (List ℕ) → Option (List ℕ) → Option (List ℕ) → Option (List ℕ) → Option Journals → Option Journals → Type 0
-LivesUnwritten accepts seat left left' held held' kept kept' =
-    SaysFront (ready_line seat) left left' held held' kept kept' ⊎ LivesHanded accepts seat left left' held held' kept kept'
+-- how a stop cut it
+abbrev pub LivesCut : Accepting → Stop → Seated → Option (List ℕ) → Option (List ℕ) → Option (List ℕ) → Option (List ℕ) → Option Journals → Option Journals → Type 0
+LivesCut accepts why seat left left' held held' kept kept' =
+    SaysFront why (ready_line seat) left left' held held' kept kept' ⊎ LivesSome accepts why seat left left' held held' kept kept'

@@ -1,9 +1,9 @@
 -- Why a process ends before its input does, and its status. Source: this profile.
-use Rattle.std.specs.Prelude.{ℕ}
+use Rattle.std.specs.Prelude.{ℕ, Result, Ok, Err}
+use Rattle.disk_log.specs.declared.refusals.LogRefusal.{LogRefusal}
+use Rattle.disk_log.specs.declared.refusals.LogRefusal.TheVariants as log
 use Rattle.outside.specs.declared.faults.OutFault.{OutFault}
 use Rattle.outside.specs.declared.faults.OutFault.TheVariants as fault
-use Rattle.world_core.specs.declared.reply.SeatFault.{SeatFault}
-use Rattle.world_core.specs.declared.reply.SeatFault.TheVariants as seat
 use Rattle.validator_process.specs.declared.stop.Stop.{Stop}
 use Rattle.validator_process.specs.declared.stop.Stop.TheVariants as stop
 
@@ -21,6 +21,8 @@ abbrev pub unwritten : OutFault → Stop
 unwritten fault.Failed = stop.WriteFault
 unwritten fault.OutOfMemory = stop.OutOfMemory
 
-abbrev pub unanswered : SeatFault → Stop
-unanswered seat.KeepFault = stop.KeepFault
-unanswered seat.OutOfMemory = stop.OutOfMemory
+-- how an append to the log ends a process, if it does: a fault is one of the disk, and all else is running out of memory
+abbrev pub unkept : Result (Unit {0}) LogRefusal → Result (Unit {0}) Stop
+unkept (Ok done) = Ok done
+unkept (Err log.DiskFault) = Err stop.KeepFault
+unkept (Err refusal) = Err stop.OutOfMemory

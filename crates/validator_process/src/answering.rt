@@ -23,7 +23,7 @@ use wire_bcs::{OutOfMemory, Seq};
 use world_core::SeatFault;
 
 /// Answers a request that calls the member.
-#[tactic(auto, using(scene_spec::proofs::RulesAside::run_answer_alike, scene_spec::proofs::RulesAside::run_due_alike, scene_spec::proofs::RulesAside::run_called_alike, scene_spec::proofs::RulesAside::close_answer_alike, scene_spec::proofs::RulesAside::close_due_alike, scene_spec::proofs::RulesAside::close_called_alike, scene_spec::proofs::RulesAside::turn_answer_alike, scene_spec::proofs::RulesAside::turn_due_alike, scene_spec::proofs::RulesAside::turn_called_alike))]
+#[tactic(auto, using(world_spec::proofs::RulesAside::run_answer_alike, world_spec::proofs::RulesAside::run_due_alike, world_spec::proofs::RulesAside::run_called_alike, world_spec::proofs::RulesAside::close_answer_alike, world_spec::proofs::RulesAside::close_due_alike, world_spec::proofs::RulesAside::close_called_alike, world_spec::proofs::RulesAside::turn_answer_alike, world_spec::proofs::RulesAside::turn_due_alike, world_spec::proofs::RulesAside::turn_called_alike))]
 fn answer_call<R: Threads + Sync, D: Keeper, S: Sealer>(
     rt: &R,
     alloc: Global,

@@ -3,16 +3,16 @@
 ghost use Rattle.std.specs.Prelude.{◌≡◌, ◌<◌, ◌≤◌, IfOk, IsErrOf, OnOk, true};
 ghost use Rattle.outside.specs.Causes.{Rose};
 ghost use Rattle.protocol_spec.specs.Member.Calls.{due, run_answer, runs, see_answer, sees};
-ghost use Rattle.scene_spec.specs.Posts.{seat_behind};
-ghost use Rattle.scene_spec.specs.Seats.{bare_rules, rules_of_seat};
+ghost use Rattle.world_spec.specs.Posts.{seat_behind};
+ghost use Rattle.world_spec.specs.Seats.{bare_rules, rules_of_seat};
 ghost use Rattle.world_core.specs.Replies.{Leaves};
 ghost use Rattle.world_core.specs.declared.reply.SeatFault.TheVariants as faults;
 ghost use Rattle.validator_process.specs.Says.{run_line, see_line};
 
-use answer_types::{Ran, RunRefusal, SeeRefusal, Seen};
 use dag_pool::OpenGate;
 use outside::Keeper;
 use process_lines::{print_ran, print_run_refusal, print_see_refusal, print_seen};
+use protocol_spec::{Ran, RunRefusal, SeeRefusal, Seen};
 use quorum_core::Sealer;
 use std::alloc::Global;
 use std::thread::Threads;

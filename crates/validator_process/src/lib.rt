@@ -3,22 +3,23 @@
 //!
 //! [`validator`] is the program over any source, sink and disk. `init` makes a journal: its first record says of which
 //! member and of which set-up it is. A start reads that record before anything is written, starts the member from its
-//! records, writes one line, and then answers requests, a line each, until the source ends. An answer is handed to the
-//! sink once the record that it rests on is in the file for good. A fault of the file, of memory or of a stream ends the
-//! process, and nothing that was not kept is answered.
+//! records, writes one line, and then answers requests, a line each, until the source ends. A member answers with its
+//! record on paper; the process appends the record to the log, and hands the answer to the sink once it is in the file for
+//! good. A fault of the file, of memory or of a stream ends the process, and nothing that was not kept is answered.
 #![tactic(auto)]
 
 mod answering;
 mod entries;
 mod identity;
 mod journal;
+mod keeping;
 mod living;
 mod looking;
 mod making;
 mod opening;
-mod process_log;
 mod reading;
 mod serving;
+mod start_log;
 mod starting;
 mod stating;
 mod stop;

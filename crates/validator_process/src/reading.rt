@@ -18,7 +18,7 @@ use schedule_text::{Schedule, ScheduleRefusal, read_schedule};
 use std::alloc::Global;
 use wire_bcs::Seq;
 use world_core::{World, WorldRefusal};
-use world_names::MakesSeals;
+use world_lines::MakesSeals;
 
 /// The bytes of a set-up at most.
 const LONGEST_TEXT: u32 = 16_777_216;

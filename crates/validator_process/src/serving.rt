@@ -1,23 +1,28 @@
 //! Requests, one after the other.
 
-ghost use Rattle.std.specs.Prelude.{◌≡◌, ◌⊎◌, ◌<◌, ◌≤◌, [], None, IfOk, IsErrOf, OnErr, OnOk, length, true};
+ghost use Rattle.std.specs.Prelude.{◌≡◌, ◌<◌, ◌≤◌, [], None, IfErr, IfOk, IsErrOf, OnErr, OnOk, length, slice_get, true};
 ghost use Rattle.std.specs.Io.KnownBytes.{Appends};
 ghost use Rattle.outside.specs.Causes.{Rose};
+ghost use Rattle.outside.specs.Lists.{journal_of};
 ghost use Rattle.outside.specs.Streams.{AppendsFront};
+ghost use Rattle.disk_log.specs.Keeping.{told_lists};
 ghost use Rattle.outside.specs.declared.faults.OutFault.TheVariants as out;
 ghost use Rattle.process_lines.specs.Lines.{longest_line};
 ghost use Rattle.process_lines.specs.Requests.{HasWorkers, request_of};
-ghost use Rattle.world_core.specs.Replies.{Leaves};
+ghost use Rattle.world_core.specs.Replies.{Leaves, spelled_due};
 ghost use Rattle.world_core.specs.declared.reply.SeatFault.TheVariants as faults;
 ghost use Rattle.validator_process.specs.declared.stop.Stop.TheVariants as stop;
 ghost use Rattle.validator_process.specs.Moves.{due_for, moved};
-ghost use Rattle.validator_process.specs.Serving.{IsAnswer, IsCutAt, IsHalfSaid, IsRefused, IsServed, IsUnwritten, Next, ServesAll, ServesHanded, ServesSome, around, due_for_request, ended, seat_behind_request};
+ghost use Rattle.validator_process.specs.Growing.{EachLeft, HasMore, IsWhole};
+ghost use Rattle.validator_process.specs.Serving.{IsAnswer, IsCutBy, IsServed, IsStoppedBy, Next, ServesAll, ServesSome, around, due_for_request, ended, seat_behind_request};
 ghost use Rattle.validator_process.specs.Says.{Says};
 ghost use Rattle.process_lines.specs.Texts.{bad_request_text};
 
 use crate::answering::answer;
-use crate::stop::{Stop, unanswered, unread, unwritten};
-use outside::{Keeper, OutFault, Sink, Source, write_all};
+use crate::keeping::keep_due;
+use crate::stop::{Stop, unread, unwritten};
+use disk_log::{Disk, DiskLog};
+use outside::{Keeper, MemKeeper, OutFault, Sink, Source, write_all};
 use process_lines::{Got, LineReader, Request, read_request};
 use quorum_core::Sealer;
 use std::alloc::Global;
@@ -111,34 +116,84 @@ pub(crate) fn say<K: Sink>(sink: &mut K, bytes: &[u8]) -> Result<(), Stop>
     }
 }
 
-/// Answers a line, which is not too long: the answer is handed to the sink once the record that it rests on is kept.
-#[tactic(auto, using(crate::proofs::Served::line_served, crate::proofs::Served::line_refused, crate::proofs::Served::line_half_said))]
-fn serve_line<R: Threads + Sync, D: Keeper, S: Sealer, K: Sink>(
+/// The first record of a member; none if it has none. Any failure counts as out of memory.
+fn first_record(paper: &mut MemKeeper, member: u32) -> Result<Option<Seq<u8>>, OutOfMemory>
+    requires known { member < length paper.old.lists }
+    ensures { IfOk result (λ first. first ≡ slice_get (journal_of paper.old.lists member) 0) }
+{
+    if paper.count(member) == 0 {
+        return Ok(None);
+    }
+    match paper.read(member, 0) {
+        Ok(record) => Ok(Some(record)),
+        Err(_) => Err(OutOfMemory),
+    }
+}
+
+/// The line that answers a line, which is not too long, and the encoding of the record that is due. Nothing is kept.
+#[tactic(auto, using(world_core::proofs::Replying::paper_due))]
+fn answer_on_paper<R: Threads + Sync, S: Sealer>(
     rt: &R,
     alloc: Global,
     validator: &mut Validator,
-    keeper: &mut D,
+    sealer: &S,
+    member: u32,
+    line: &[u8],
+) -> Result<(Seq<u8>, Option<Seq<u8>>), OutOfMemory>
+    requires few { member ≤ 63 }
+    requires member { validator.old.member ≡ member }
+    requires up { validator.old.up ≡ true }
+    ensures says { IfOk result (λ given. IsAnswer (S.accepts sealer.now) validator.old (request_of line.now) given.0) }
+    ensures state { OnOk result (validator.new ≡ seat_behind_request (S.accepts sealer.now) validator.old (request_of line.now)) }
+    ensures due { IfOk result (λ given. given.1 ≡ spelled_due (due_for_request (S.accepts sealer.now) validator.old (request_of line.now))) }
+{
+    let mut paper = MemKeeper::new(alloc, member + 1, [].as_slice())?;
+    let text = match answer_line(rt, alloc, validator, &mut paper, sealer, member, line) {
+        Ok(text) => text,
+        Err(_) => return Err(OutOfMemory),
+    };
+    let due = first_record(&mut paper, member)?;
+    Ok((text, due))
+}
+
+/// Answers a line, which is not too long: the answer is handed to the sink once the record that it rests on is kept.
+fn serve_line<R: Threads + Sync, F: Disk, S: Sealer, K: Sink>(
+    rt: &R,
+    alloc: Global,
+    validator: &mut Validator,
+    log: &mut DiskLog<F>,
     sealer: &S,
     member: u32,
     line: &[u8],
     sink: &mut K,
 ) -> Result<(), Stop>
+    requires few { member ≤ 63 }
     requires member { validator.old.member ≡ member }
-    requires known { validator.old.member < D.width keeper.old }
     requires up { validator.old.up ≡ true }
-    ensures ok { OnOk result (IsServed (S.accepts sealer.now) (request_of line.now) (K.held sink.old) (K.held sink.new) (D.lists keeper.old) (D.lists keeper.new) validator.old validator.new) }
-    ensures cut { OnErr result (IsRefused (S.accepts sealer.now) (request_of line.now) (K.held sink.old) (K.held sink.new) (D.lists keeper.old) (D.lists keeper.new) validator.old ⊎ IsHalfSaid (S.accepts sealer.now) (request_of line.now) (K.held sink.old) (K.held sink.new) (D.lists keeper.old) (D.lists keeper.new) validator.old) }
-    ensures width { D.width keeper.new ≡ D.width keeper.old }
-    ensures later { D.failed keeper.old ≤ D.failed keeper.new }
+    requires width { length log.old.counts ≡ 65 }
+    requires whole { IsWhole (F.history log.old.disk) log.old.end log.old.shut }
+    ensures ok { OnOk result (IsServed (S.accepts sealer.now) (request_of line.now) (K.held sink.old) (K.held sink.new) (told_lists (F.history log.old.disk) log.old.end (length log.old.counts)) (told_lists (F.history log.new.disk) log.new.end (length log.new.counts)) validator.old validator.new) }
+    ensures cut { IfErr result (λ why. IsStoppedBy (S.accepts sealer.now) why (request_of line.now) (K.held sink.old) (K.held sink.new) (told_lists (F.history log.old.disk) log.old.end (length log.old.counts)) (told_lists (F.history log.new.disk) log.new.end (length log.new.counts)) validator.old) }
+    ensures each { IfErr result (λ why. EachLeft (λ lists. IsStoppedBy (S.accepts sealer.now) why (request_of line.now) (K.held sink.old) (K.held sink.new) (told_lists (F.history log.old.disk) log.old.end (length log.old.counts)) lists validator.old) (length log.new.counts) (F.history log.new.disk)) }
+    ensures whole { OnOk result (IsWhole (F.history log.new.disk) log.new.end log.new.shut) }
+    ensures more { HasMore (F.history log.old.disk) (F.history log.new.disk) log.old.end log.new.end (F.failed log.new.disk) }
+    ensures width { length log.new.counts ≡ length log.old.counts }
+    ensures later { F.failed log.old.disk ≤ F.failed log.new.disk }
     ensures said_later { K.faults sink.old ≤ K.faults sink.new }
-    ensures keep_fault { IsErrOf result stop.KeepFault → Rose (D.failed keeper.old) (D.failed keeper.new) }
+    ensures keep_fault { IsErrOf result stop.KeepFault → Rose (F.failed log.old.disk) (F.failed log.new.disk) }
     ensures write_fault { IsErrOf result stop.WriteFault → Rose (K.faults sink.old) (K.faults sink.new) }
-    ensures only { IsErrOf result stop.ReadFault → ⊥ }
-    ensures handed { IsErrOf result stop.WriteFault → IsHalfSaid (S.accepts sealer.now) (request_of line.now) (K.held sink.old) (K.held sink.new) (D.lists keeper.old) (D.lists keeper.new) validator.old }
 {
-    match answer_line(rt, alloc, validator, keeper, sealer, member, line) {
-        Ok(text) => say(sink, text.as_slice()),
-        Err(fault) => Err(unanswered(fault)),
+    let (text, due) = match answer_on_paper(rt, alloc, validator, sealer, member, line) {
+        Ok(given) => given,
+        Err(OutOfMemory) => return Err(Stop::OutOfMemory),
+    };
+    match keep_due(log, member, &due) {
+        Ok(()) => {}
+        Err(stop) => return Err(stop),
+    }
+    match say(sink, text.as_slice()) {
+        Ok(()) => Ok(()),
+        Err(stop) => Err(stop),
     }
 }
 
@@ -162,10 +217,10 @@ fn serve_bad<S: Sealer, D: Keeper, K: Sink>(
     sink: &mut K,
 ) -> Result<(), Stop>
     ensures ok { OnOk result (IsServed (S.accepts sealer.now) None (K.held sink.old) (K.held sink.new) (D.lists keeper.now) (D.lists keeper.now) validator.now validator.now) }
-    ensures cut { OnErr result (IsHalfSaid (S.accepts sealer.now) None (K.held sink.old) (K.held sink.new) (D.lists keeper.now) (D.lists keeper.now) validator.now) }
+    ensures cut { IfErr result (λ why. IsStoppedBy (S.accepts sealer.now) why None (K.held sink.old) (K.held sink.new) (D.lists keeper.now) (D.lists keeper.now) validator.now) }
     ensures said_later { K.faults sink.old ≤ K.faults sink.new }
     ensures write_fault { IsErrOf result stop.WriteFault → Rose (K.faults sink.old) (K.faults sink.new) }
-    ensures only { (IsErrOf result stop.ReadFault → ⊥) × (IsErrOf result stop.KeepFault → ⊥) }
+    ensures only { IsErrOf result stop.KeepFault → ⊥ }
 {
     match say_bad(sink) {
         Ok(()) => Ok(()),
@@ -174,31 +229,35 @@ fn serve_bad<S: Sealer, D: Keeper, K: Sink>(
 }
 
 /// Reads the next line, and answers it. Answers whether there was one.
-#[tactic(auto, using(crate::proofs::Served::next_line, crate::proofs::Served::next_long, crate::proofs::Served::next_over, crate::proofs::Served::cut_line, crate::proofs::Served::cut_long, crate::proofs::Served::cut_unread, crate::proofs::Served::handed_long))]
-fn serve_next<R: Threads + Sync, D: Keeper, S: Sealer, I: Source, K: Sink>(
+#[tactic(auto, using(crate::proofs::Served::next_line, crate::proofs::Served::next_long, crate::proofs::Served::next_over, crate::proofs::Served::cut_long))]
+fn serve_next<R: Threads + Sync, F: Disk, S: Sealer, I: Source, K: Sink>(
     rt: &R,
     alloc: Global,
     validator: &mut Validator,
-    keeper: &mut D,
+    log: &mut DiskLog<F>,
     sealer: &S,
     member: u32,
     reader: &mut LineReader,
     source: &mut I,
     sink: &mut K,
 ) -> Result<bool, Stop>
+    requires few { member ≤ 63 }
     requires member { validator.old.member ≡ member }
-    requires known { validator.old.member < D.width keeper.old }
     requires up { validator.old.up ≡ true }
-    ensures next { IfOk result (Next (S.accepts sealer.now) (around reader.old (I.left source.old) (K.held sink.old) (D.lists keeper.old) validator.old) (around reader.new (I.left source.new) (K.held sink.new) (D.lists keeper.new) validator.new)) }
-    ensures cut { OnErr result (IsCutAt (S.accepts sealer.now) (around reader.old (I.left source.old) (K.held sink.old) (D.lists keeper.old) validator.old) (around reader.new (I.left source.new) (K.held sink.new) (D.lists keeper.new) validator.new)) }
-    ensures width { D.width keeper.new ≡ D.width keeper.old }
+    requires width { length log.old.counts ≡ 65 }
+    requires whole { IsWhole (F.history log.old.disk) log.old.end log.old.shut }
+    ensures next { IfOk result (Next (S.accepts sealer.now) (around reader.old (I.left source.old) (K.held sink.old) (told_lists (F.history log.old.disk) log.old.end (length log.old.counts)) validator.old) (around reader.new (I.left source.new) (K.held sink.new) (told_lists (F.history log.new.disk) log.new.end (length log.new.counts)) validator.new)) }
+    ensures cut { IfErr result (λ why. IsCutBy (S.accepts sealer.now) why (around reader.old (I.left source.old) (K.held sink.old) (told_lists (F.history log.old.disk) log.old.end (length log.old.counts)) validator.old) (around reader.new (I.left source.new) (K.held sink.new) (told_lists (F.history log.new.disk) log.new.end (length log.new.counts)) validator.new)) }
+    ensures each { IfErr result (λ why. EachLeft (λ lists. IsCutBy (S.accepts sealer.now) why (around reader.old (I.left source.old) (K.held sink.old) (told_lists (F.history log.old.disk) log.old.end (length log.old.counts)) validator.old) (around reader.new (I.left source.new) (K.held sink.new) lists validator.new)) (length log.new.counts) (F.history log.new.disk)) }
+    ensures whole { OnOk result (IsWhole (F.history log.new.disk) log.new.end log.new.shut) }
+    ensures more { HasMore (F.history log.old.disk) (F.history log.new.disk) log.old.end log.new.end (F.failed log.new.disk) }
+    ensures width { length log.new.counts ≡ length log.old.counts }
     ensures read_later { I.faults source.old ≤ I.faults source.new }
-    ensures later { D.failed keeper.old ≤ D.failed keeper.new }
+    ensures later { F.failed log.old.disk ≤ F.failed log.new.disk }
     ensures said_later { K.faults sink.old ≤ K.faults sink.new }
     ensures read_fault { IsErrOf result stop.ReadFault → Rose (I.faults source.old) (I.faults source.new) }
-    ensures keep_fault { IsErrOf result stop.KeepFault → Rose (D.failed keeper.old) (D.failed keeper.new) }
+    ensures keep_fault { IsErrOf result stop.KeepFault → Rose (F.failed log.old.disk) (F.failed log.new.disk) }
     ensures write_fault { IsErrOf result stop.WriteFault → Rose (K.faults sink.old) (K.faults sink.new) }
-    ensures handed { IsErrOf result stop.WriteFault → IsUnwritten (S.accepts sealer.now) (around reader.old (I.left source.old) (K.held sink.old) (D.lists keeper.old) validator.old) (around reader.new (I.left source.new) (K.held sink.new) (D.lists keeper.new) validator.new) }
 {
     match reader.next(source) {
         Ok(Got::Line(line)) => {
@@ -206,7 +265,7 @@ fn serve_next<R: Threads + Sync, D: Keeper, S: Sealer, I: Source, K: Sink>(
                 rt,
                 alloc,
                 validator,
-                keeper,
+                log,
                 sealer,
                 member,
                 line.as_slice(),
@@ -216,7 +275,7 @@ fn serve_next<R: Threads + Sync, D: Keeper, S: Sealer, I: Source, K: Sink>(
                 Err(stop) => Err(stop),
             }
         }
-        Ok(Got::TooLong) => match serve_bad(validator, keeper, sealer, sink) {
+        Ok(Got::TooLong) => match serve_bad(validator, log, sealer, sink) {
             Ok(()) => Ok(true),
             Err(stop) => Err(stop),
         },
@@ -226,31 +285,37 @@ fn serve_next<R: Threads + Sync, D: Keeper, S: Sealer, I: Source, K: Sink>(
 }
 
 /// Answers the requests of a source to its end. After 2^64 - 1 of them the process ends as if out of memory.
-pub(crate) fn serve<R: Threads + Sync, D: Keeper, S: Sealer, I: Source, K: Sink>(
+pub(crate) fn serve<R: Threads + Sync, F: Disk, S: Sealer, I: Source, K: Sink>(
     rt: &R,
     alloc: Global,
     validator: &mut Validator,
-    keeper: &mut D,
+    log: &mut DiskLog<F>,
     sealer: &S,
     member: u32,
     reader: &mut LineReader,
     source: &mut I,
     sink: &mut K,
 ) -> Result<(), Stop>
+    requires few { member ≤ 63 }
     requires member { validator.old.member ≡ member }
-    requires known { validator.old.member < D.width keeper.old }
     requires up { validator.old.up ≡ true }
     requires new { reader.old ≡ [] }
-    ensures all { OnOk result (ServesAll (S.accepts sealer.now) (around [] (I.left source.old) (K.held sink.old) (D.lists keeper.old) validator.old) (around reader.new (I.left source.new) (K.held sink.new) (D.lists keeper.new) validator.new)) }
-    ensures cut { OnErr result (ServesSome (S.accepts sealer.now) (around [] (I.left source.old) (K.held sink.old) (D.lists keeper.old) validator.old) (around reader.new (I.left source.new) (K.held sink.new) (D.lists keeper.new) validator.new)) }
+    requires width { length log.old.counts ≡ 65 }
+    requires whole { IsWhole (F.history log.old.disk) log.old.end log.old.shut }
+    ensures all { OnOk result (ServesAll (S.accepts sealer.now) (around [] (I.left source.old) (K.held sink.old) (told_lists (F.history log.old.disk) log.old.end (length log.old.counts)) validator.old) (around reader.new (I.left source.new) (K.held sink.new) (told_lists (F.history log.new.disk) log.new.end (length log.new.counts)) validator.new)) }
+    ensures cut { IfErr result (λ why. ServesSome (S.accepts sealer.now) why (around [] (I.left source.old) (K.held sink.old) (told_lists (F.history log.old.disk) log.old.end (length log.old.counts)) validator.old) (around reader.new (I.left source.new) (K.held sink.new) (told_lists (F.history log.new.disk) log.new.end (length log.new.counts)) validator.new)) }
+    ensures each { IfErr result (λ why. EachLeft (λ lists. ServesSome (S.accepts sealer.now) why (around [] (I.left source.old) (K.held sink.old) (told_lists (F.history log.old.disk) log.old.end (length log.old.counts)) validator.old) (around reader.new (I.left source.new) (K.held sink.new) lists validator.new)) (length log.new.counts) (F.history log.new.disk)) }
+    ensures whole { OnOk result (IsWhole (F.history log.new.disk) log.new.end log.new.shut) }
+    ensures more { HasMore (F.history log.old.disk) (F.history log.new.disk) log.old.end log.new.end (F.failed log.new.disk) }
+    ensures width { length log.new.counts ≡ length log.old.counts }
+    ensures later { F.failed log.old.disk ≤ F.failed log.new.disk }
     ensures read_fault { IsErrOf result stop.ReadFault → Rose (I.faults source.old) (I.faults source.new) }
-    ensures keep_fault { IsErrOf result stop.KeepFault → Rose (D.failed keeper.old) (D.failed keeper.new) }
+    ensures keep_fault { IsErrOf result stop.KeepFault → Rose (F.failed log.old.disk) (F.failed log.new.disk) }
     ensures write_fault { IsErrOf result stop.WriteFault → Rose (K.faults sink.old) (K.faults sink.new) }
-    ensures handed { IsErrOf result stop.WriteFault → ServesHanded (S.accepts sealer.now) (around [] (I.left source.old) (K.held sink.old) (D.lists keeper.old) validator.old) (around reader.new (I.left source.new) (K.held sink.new) (D.lists keeper.new) validator.new) }
 {
     for _ in 0..u64::MAX {
         if !serve_next(
-            rt, alloc, validator, keeper, sealer, member, reader, source, sink,
+            rt, alloc, validator, log, sealer, member, reader, source, sink,
         )? {
             return Ok(());
         }

@@ -4,26 +4,25 @@ ghost use Rattle.std.specs.Prelude.{◌≡◌, ◌⊎◌, ◌<◌, ◌≤◌, []
 ghost use Rattle.std.specs.Io.KnownBytes.{Appends, Keeps};
 ghost use Rattle.outside.specs.Causes.{Rose};
 ghost use Rattle.outside.specs.Streams.{AppendsFront};
-ghost use Rattle.outside.specs.Lists.{KeepsJournals};
 ghost use Rattle.disk_log.specs.Keeping.{told_lists};
 ghost use Rattle.world_core.specs.Trusts.{trust_by};
 ghost use Rattle.validator_process.specs.declared.identity.Head.TheVariants as head;
 ghost use Rattle.validator_process.specs.declared.reading.Unstarted.TheVariants as unstarted;
 ghost use Rattle.validator_process.specs.declared.stop.Stop.TheVariants as stop;
-ghost use Rattle.validator_process.specs.Ending.{EndsJournal, EndsLife, EndsLog, EndsText, HasHead, IsHeadRefused, IsSaid, SaysUnopened, SaysUnstarted};
+ghost use Rattle.validator_process.specs.Ending.{EndsJournal, EndsLog, EndsText, HasHead, IsHeadRefused, IsSaid, SaysUnopened, SaysUnstarted};
 ghost use Rattle.validator_process.specs.Genesis.{line_status};
-ghost use Rattle.validator_process.specs.Growing.{records_in};
-ghost use Rattle.validator_process.specs.Starting.{LivesCut, LivesUnwritten, LivesWhole, start_bytes};
+ghost use Rattle.validator_process.specs.Growing.{EachLeft, HasMore, IsWhole, StandsAs, records_in};
+ghost use Rattle.validator_process.specs.Starting.{LivesCut, LivesWhole, StartsAs, start_bytes};
 
 use crate::identity::{Head, genesis_digest, read_head};
 use crate::journal::{Unopened, open_journal};
 use crate::opening::{open_member, ready};
-use crate::process_log::{Opening, ProcessLog};
 use crate::reading::{Unstarted, open_world};
 use crate::serving::{say, serve};
+use crate::start_log::{Opening, StartLog};
 use crate::stop::Stop;
-use disk_log::{Disk, RunLog};
-use outside::{Failed, Keeper, Sink, Source};
+use disk_log::{Disk, DiskLog};
+use outside::{Failed, Sink, Source};
 use process_lines::{LineReader, StartLine, print_start};
 use quorum_core::Sealer;
 use std::alloc::Global;
@@ -32,7 +31,7 @@ use std::thread::Threads;
 use validator_core::Validator;
 use wire_bcs::{OutOfMemory, Seq};
 use world_core::World;
-use world_names::MakesSeals;
+use world_lines::MakesSeals;
 
 /// The first line of a process.
 fn start_bytes(alloc: Global, start: &StartLine) -> Result<Seq<u8>, OutOfMemory>
@@ -59,26 +58,32 @@ pub(crate) fn say_start<K: Sink>(alloc: Global, start: &StartLine, sink: &mut K)
 }
 
 /// Says that the member is up, and answers requests to the end of the source.
-#[tactic(auto, using(crate::proofs::Lived::whole, crate::proofs::Lived::some, crate::proofs::Lived::unready, crate::proofs::Lived::unsaid, crate::proofs::Lived::handed, validator_core::proofs::Settling::keeps_same))]
-fn serve_member<R: Threads + Sync, D: Keeper, S: Sealer, I: Source, K: Sink>(
+#[tactic(auto, using(crate::proofs::Lived::whole, crate::proofs::Lived::some, crate::proofs::Lived::unready, crate::proofs::Lived::unsaid))]
+fn serve_member<R: Threads + Sync, F: Disk, S: Sealer, I: Source, K: Sink>(
     rt: &R,
     alloc: Global,
     validator: &mut Validator,
-    keeper: &mut D,
+    log: &mut DiskLog<F>,
     sealer: &S,
     member: u32,
     source: &mut I,
     sink: &mut K,
 ) -> Result<(), Stop>
+    requires few { member ≤ 63 }
     requires member { validator.old.member ≡ member }
-    requires known { validator.old.member < D.width keeper.old }
     requires up { validator.old.up ≡ true }
-    ensures whole { OnOk result (LivesWhole (S.accepts sealer.now) validator.old (I.left source.old) (I.left source.new) (K.held sink.old) (K.held sink.new) (D.lists keeper.old) (D.lists keeper.new)) }
-    ensures cut { OnErr result (LivesCut (S.accepts sealer.now) validator.old (I.left source.old) (I.left source.new) (K.held sink.old) (K.held sink.new) (D.lists keeper.old) (D.lists keeper.new)) }
+    requires width { length log.old.counts ≡ 65 }
+    requires whole { IsWhole (F.history log.old.disk) log.old.end log.old.shut }
+    ensures lived { OnOk result (LivesWhole (S.accepts sealer.now) validator.old (I.left source.old) (I.left source.new) (K.held sink.old) (K.held sink.new) (told_lists (F.history log.old.disk) log.old.end (length log.old.counts)) (told_lists (F.history log.new.disk) log.new.end (length log.new.counts))) }
+    ensures cut { IfErr result (λ why. LivesCut (S.accepts sealer.now) why validator.old (I.left source.old) (I.left source.new) (K.held sink.old) (K.held sink.new) (told_lists (F.history log.old.disk) log.old.end (length log.old.counts)) (told_lists (F.history log.new.disk) log.new.end (length log.new.counts))) }
+    ensures each { IfErr result (λ why. EachLeft (λ lists. LivesCut (S.accepts sealer.now) why validator.old (I.left source.old) (I.left source.new) (K.held sink.old) (K.held sink.new) (told_lists (F.history log.old.disk) log.old.end (length log.old.counts)) lists) (length log.new.counts) (F.history log.new.disk)) }
+    ensures whole { OnOk result (IsWhole (F.history log.new.disk) log.new.end log.new.shut) }
+    ensures more { HasMore (F.history log.old.disk) (F.history log.new.disk) log.old.end log.new.end (F.failed log.new.disk) }
+    ensures width { length log.new.counts ≡ length log.old.counts }
+    ensures later { F.failed log.old.disk ≤ F.failed log.new.disk }
     ensures read_fault { IsErrOf result stop.ReadFault → Rose (I.faults source.old) (I.faults source.new) }
-    ensures keep_fault { IsErrOf result stop.KeepFault → Rose (D.failed keeper.old) (D.failed keeper.new) }
+    ensures keep_fault { IsErrOf result stop.KeepFault → Rose (F.failed log.old.disk) (F.failed log.new.disk) }
     ensures write_fault { IsErrOf result stop.WriteFault → Rose (K.faults sink.old) (K.faults sink.new) }
-    ensures handed { IsErrOf result stop.WriteFault → LivesUnwritten (S.accepts sealer.now) validator.old (I.left source.old) (I.left source.new) (K.held sink.old) (K.held sink.new) (D.lists keeper.old) (D.lists keeper.new) }
 {
     let Ok(mut reader) = LineReader::new(alloc) else {
         return Err(Stop::OutOfMemory);
@@ -92,7 +97,7 @@ fn serve_member<R: Threads + Sync, D: Keeper, S: Sealer, I: Source, K: Sink>(
         rt,
         alloc,
         validator,
-        keeper,
+        log,
         sealer,
         member,
         &mut reader,
@@ -152,64 +157,88 @@ pub(crate) fn say_unopened<K: Sink>(alloc: Global, why: Unopened, sink: &mut K) 
     }
 }
 
-/// Starts the member from an open log, and serves. Answers the status.
-#[tactic(auto, using(crate::proofs::Ended::lived_whole, crate::proofs::Ended::lived_cut, crate::proofs::Ended::unstarted_life))]
-fn serve_over<R: Threads + Sync, D: Keeper, S: MakesSeals, I: Source, K: Sink>(
+/// Starts the member from the records of an open log. Gives the log back, as it was.
+fn start_over<F: Disk, S: Sealer, O: Opening>(
+    world: &World,
+    member: u32,
+    sealer: &S,
+    log: DiskLog<F>,
+) -> (Result<Validator, Unstarted>, DiskLog<F>)
+    requires known { member < length log.counts }
+    requires stands { StandsAs (F.history log.disk) log.end log.counts log.shut O.history O.end O.counts O.shut }
+    ensures starts { StartsAs (S.accepts sealer.now) world.now member (told_lists (F.history log.disk) log.end (length log.counts)) result.0 }
+    ensures member { IfOk result.0 (λ v. (v.member ≡ member) × (v.up ≡ true)) }
+    ensures stands { StandsAs (F.history result.1.disk) result.1.end result.1.counts result.1.shut O.history O.end O.counts O.shut }
+    ensures later { F.failed log.disk ≤ F.failed result.1.disk }
+    ensures fault { result.0 ≡ Err (unstarted.Stopped stop.KeepFault) → Rose (F.failed log.disk) (F.failed result.1.disk) }
+{
+    let mut keeper: StartLog<F, O> = StartLog::new(log);
+    let opened = open_member(world, member, sealer, &mut keeper);
+    (opened, keeper.into_log())
+}
+
+/// Starts the member from the records of an open log. Gives the log back, as it was.
+#[tactic(auto, using(crate::proofs::Growing::same_log))]
+fn start_from<F: Disk, S: Sealer>(
+    world: &World,
+    member: u32,
+    sealer: &S,
+    log: DiskLog<F>,
+) -> (Result<Validator, Unstarted>, DiskLog<F>)
+    requires known { member < length log.counts }
+    requires width { length log.counts ≡ 65 }
+    requires whole { IsWhole (F.history log.disk) log.end log.shut }
+    ensures starts { StartsAs (S.accepts sealer.now) world.now member (told_lists (F.history log.disk) log.end (length log.counts)) result.0 }
+    ensures member { IfOk result.0 (λ v. (v.member ≡ member) × (v.up ≡ true)) }
+    ensures stands { StandsAs (F.history result.1.disk) result.1.end result.1.counts result.1.shut (F.history log.disk) log.end log.counts log.shut }
+    ensures width { length result.1.counts ≡ 65 }
+    ensures whole { IsWhole (F.history result.1.disk) result.1.end result.1.shut }
+    ensures later { F.failed log.disk ≤ F.failed result.1.disk }
+    ensures fault { result.0 ≡ Err (unstarted.Stopped stop.KeepFault) → Rose (F.failed log.disk) (F.failed result.1.disk) }
+{
+    start_over::<F, S, Brand>(world, member, sealer, log)
+}
+
+/// Starts the member from an open log, and serves. Gives the disk back.
+fn serve_over<R: Threads + Sync, F: Disk, S: MakesSeals, I: Source, K: Sink>(
     rt: &R,
     alloc: Global,
     world: World,
-    keeper: &mut D,
+    log: DiskLog<F>,
     member: u32,
     sealer: &S,
     source: &mut I,
     sink: &mut K,
-) -> u8
-    requires known { member < D.width keeper.old }
-    ensures { EndsLife (S.accepts sealer.now) world member (I.left source.old) (I.left source.new) (K.held sink.old) (K.held sink.new) (D.lists keeper.old) (D.lists keeper.new) (I.faults source.old) (I.faults source.new) (K.faults sink.old) (K.faults sink.new) (D.failed keeper.old) (D.failed keeper.new) result }
+) -> (u8, F)
+    requires few { member ≤ 63 }
+    requires width { length log.counts ≡ 65 }
+    requires whole { IsWhole (F.history log.disk) log.end log.shut }
+    ensures { EndsLog (records_in (F.history log.disk) log.end) (S.accepts sealer.now) world member (F.history result.1) (I.left source.old) (I.left source.new) (K.held sink.old) (K.held sink.new) (told_lists (F.history log.disk) log.end (length log.counts)) (I.faults source.old) (I.faults source.new) (K.faults sink.old) (K.faults sink.new) (F.failed log.disk) (F.failed result.1) result.0 }
 {
-    let opened = open_member(&world, member, sealer, keeper);
+    let (opened, started) = start_from(&world, member, sealer, log);
     drop(world);
+    let mut log = started;
     match opened {
         Ok(mut validator) => {
             let served = serve_member(
                 rt,
                 alloc,
                 &mut validator,
-                keeper,
+                &mut log,
                 sealer,
                 member,
                 source,
                 sink,
             );
             drop(validator);
+            let disk = log.into_disk();
             match served {
-                Ok(()) => 0,
-                Err(stop) => stop.status(),
+                Ok(()) => (0, disk),
+                Err(stop) => (stop.status(), disk),
             }
         }
-        Err(why) => say_unstarted(alloc, why, sink),
+        Err(why) => (say_unstarted(alloc, why, sink), log.into_disk()),
     }
-}
-
-/// Serves over the open log of a journal, whose records stay the first. Gives the disk back.
-#[tactic(auto, using(crate::proofs::Ended::log_ends))]
-fn serve_log<R: Threads + Sync, F: Disk, S: MakesSeals, I: Source, K: Sink, O: Opening>(
-    rt: &R,
-    alloc: Global,
-    world: World,
-    log: RunLog<F>,
-    member: u32,
-    sealer: &S,
-    source: &mut I,
-    sink: &mut K,
-) -> (u8, F)
-    requires known { member < length log.counts }
-    requires first { records_in (F.history log.disk) log.end ≡ O.records }
-    ensures { EndsLog O.records (S.accepts sealer.now) world member (F.history result.1) (I.left source.old) (I.left source.new) (K.held sink.old) (K.held sink.new) (told_lists (F.history log.disk) log.end (length log.counts)) (I.faults source.old) (I.faults source.new) (K.faults sink.old) (K.faults sink.new) (F.failed log.disk) (F.failed result.1) result.0 }
-{
-    let mut log: ProcessLog<F, O> = ProcessLog::new(log);
-    let status = serve_over(rt, alloc, world, &mut log, member, sealer, source, sink);
-    (status, log.into_disk())
 }
 
 /// Opens the log of a disk that is a journal of the member, and serves. Gives the disk back.
@@ -228,9 +257,7 @@ fn serve_journal<R: Threads + Sync, F: Disk, S: MakesSeals, I: Source, K: Sink>(
     ensures { EndsJournal (S.accepts sealer.now) world member (F.history disk) (F.history result.1) (I.left source.old) (I.left source.new) (K.held sink.old) (K.held sink.new) (I.faults source.old) (I.faults source.new) (K.faults sink.old) (K.faults sink.new) (F.failed disk) (F.failed result.1) result.0 }
 {
     match open_journal(alloc, disk) {
-        Ok(log) => serve_log::<R, F, S, I, K, Brand>(
-            rt, alloc, world, log, member, sealer, source, sink,
-        ),
+        Ok(log) => serve_over(rt, alloc, world, log, member, sealer, source, sink),
         Err((disk, why)) => {
             drop(world);
             (say_unopened(alloc, why, sink), disk)

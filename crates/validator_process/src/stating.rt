@@ -5,18 +5,18 @@ ghost use Rattle.chain_messages.specs.Messages as messages;
 ghost use Rattle.checkpoint_core.specs.Checkpoints.{checkpoint as checkpoint_codec};
 ghost use Rattle.protocol_spec.specs.Member.Calls.{ack_answer, end_answer};
 ghost use Rattle.protocol_spec.specs.Member.Member.{built};
-ghost use Rattle.scene_spec.specs.Seats.{rules_of_seat};
+ghost use Rattle.world_spec.specs.Seats.{rules_of_seat};
 ghost use Rattle.validator_core.specs.Calls.{IsSealedBy};
 ghost use Rattle.validator_process.specs.Says.{AckSays, CheckpointSays, EndSays, HearsAck, HearsEnd, IsOfSealed, ack_line, end_line, stated};
 ghost use Rattle.process_lines.specs.Texts.{checkpoint_text, none_text};
 
-use answer_types::{AckRefusal, EndRefusal};
 use chain_messages::{Sealed, Statement, encode_statement};
 use checkpoint_core::{Checkpoint, checkpoint_digest};
 use digest_core::Digest;
 use process_lines::{
     print_ack, print_ack_refusal, print_checkpoint, print_end, print_end_refusal, print_none,
 };
+use protocol_spec::{AckRefusal, EndRefusal};
 use quorum_core::{Sealer, Signer};
 use std::alloc::Global;
 use validator_core::Validator;

@@ -1,10 +1,10 @@
 //! How a process ends early.
 
 ghost use Rattle.std.specs.Prelude.{◌≡◌};
-ghost use Rattle.validator_process.specs.Stops.{status_of, unanswered, unread, unwritten};
+ghost use Rattle.validator_process.specs.Stops.{status_of, unkept, unread, unwritten};
 
+use disk_log::LogRefusal;
 use outside::OutFault;
-use world_core::SeatFault;
 
 /// Why a process ends before its input does.
 #[derive(Clone, Copy, Debug, PartialEq, Eq)]
@@ -52,12 +52,15 @@ pub(crate) fn unwritten(fault: OutFault) -> Stop
     }
 }
 
-/// Why a member does not answer.
-pub(crate) fn unanswered(fault: SeatFault) -> Stop
-    ensures { result ≡ unanswered fault }
+/// How an append to the log ends a process, if it does.
+pub(crate) fn unkept(answer: Result<(), LogRefusal>) -> Result<(), Stop>
+    ensures { result ≡ unkept answer }
 {
-    match fault {
-        SeatFault::KeepFault => Stop::KeepFault,
-        SeatFault::OutOfMemory => Stop::OutOfMemory,
+    match answer {
+        Ok(()) => Ok(()),
+        Err(LogRefusal::DiskFault) => Err(Stop::KeepFault),
+        Err(LogRefusal::Shut) => Err(Stop::OutOfMemory),
+        Err(LogRefusal::Full) => Err(Stop::OutOfMemory),
+        Err(LogRefusal::OutOfMemory) => Err(Stop::OutOfMemory),
     }
 }

@@ -3,16 +3,16 @@
 ghost use Rattle.std.specs.Prelude.{◌≡◌, ◌<◌, ◌≤◌, IfOk, IsErrOf, OnOk, true};
 ghost use Rattle.outside.specs.Causes.{Rose};
 ghost use Rattle.protocol_spec.specs.Member.Calls.{called, close_answer, closes, due, turn_answer, turns};
-ghost use Rattle.scene_spec.specs.Posts.{seat_behind};
-ghost use Rattle.scene_spec.specs.Seats.{bare_rules};
+ghost use Rattle.world_spec.specs.Posts.{seat_behind};
+ghost use Rattle.world_spec.specs.Seats.{bare_rules};
 ghost use Rattle.world_core.specs.Replies.{Leaves};
 ghost use Rattle.world_core.specs.declared.reply.SeatFault.TheVariants as faults;
 ghost use Rattle.validator_process.specs.Says.{close_line, turn_line};
 
-use answer_types::{CloseRefusal, TurnRefusal};
 use digest_core::Digest;
 use outside::Keeper;
 use process_lines::{print_close_refusal, print_closed, print_turn_refusal, print_turned};
+use protocol_spec::{CloseRefusal, TurnRefusal};
 use std::alloc::Global;
 use validator_core::Validator;
 use wire_bcs::{OutOfMemory, Seq};

@@ -4,18 +4,18 @@ ghost use Rattle.std.specs.Prelude.{◌≡◌, ◌++◌, ◌<◌, ◌≤◌, IfO
 ghost use Rattle.chain_messages.specs.Messages as messages;
 ghost use Rattle.outside.specs.Causes.{Rose};
 ghost use Rattle.protocol_spec.specs.Member.Calls.{due, hold_answer, holds, vote_answer, votes};
-ghost use Rattle.scene_spec.specs.Posts.{seat_behind};
-ghost use Rattle.scene_spec.specs.Seats.{rules_of_seat};
+ghost use Rattle.world_spec.specs.Posts.{seat_behind};
+ghost use Rattle.world_spec.specs.Seats.{rules_of_seat};
 ghost use Rattle.world_core.specs.Replies.{Leaves};
 ghost use Rattle.world_core.specs.declared.reply.SeatFault.TheVariants as faults;
 ghost use Rattle.validator_process.specs.Says.{VoteSays, certified, hold_line, vote_line};
 
-use answer_types::{HoldRefusal, VoteRefusal, Voted};
 use chain_messages::decode_certificate;
 use chain_types::{Unread, tx_digest};
 use digest_core::Digest;
 use outside::Keeper;
 use process_lines::{print_held, print_hold_refusal, print_vote_refusal, print_voted};
+use protocol_spec::{HoldRefusal, VoteRefusal, Voted};
 use quorum_core::Sealer;
 use std::alloc::Global;
 use validator_core::Validator;

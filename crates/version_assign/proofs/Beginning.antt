@@ -1,6 +1,5 @@
 -- What a certificate's shared inputs would be assigned is what the definition says.
-use Rattle.std.proofs.Common.{◌≡◌, List, [], ◌∷◌, ◌++◌, Option, refl, ap, sym, ◌∙◌, append_assoc, append-nil, ◌≤◌, ◌-◌, length, take, drop, arith}
-use Rattle.std.specs.Prelude.{Result, Ok, Err, IfOk}
+use Rattle.std.proofs.Common.{◌≡◌, List, [], ◌∷◌, ◌++◌, Option, refl, ap, sym, ◌∙◌, append_assoc, append-nil}
 use Rattle.std.specs.Prelude.{filter, filter_map, zip}
 use Rattle.digest_core.specs.declared.Digest.{Digest}
 use Rattle.chain_types.specs.declared.objects.Object.{Object}
@@ -8,8 +7,7 @@ use Rattle.chain_types.specs.declared.transactions.Input.{Input}
 use Rattle.chain_types.specs.declared.transactions.Input.TheVariants as inputs
 use Rattle.chain_types.specs.Digests.{is_object}
 use Rattle.chain_messages.specs.declared.messages.Certificate.{Certificate}
-use Rattle.answer_types.specs.declared.answers.Assigned.{Assigned}
-use Rattle.protocol_spec.proofs.ListLemmas.{tail_is}
+use Rattle.protocol_spec.specs.declared.answers.Assigned.{Assigned}
 use Rattle.protocol_spec.specs.Member.Admission.{assigned_to, begins}
 use Rattle.version_assign.specs.Books.{begun_of}
 use Rattle.version_assign.specs.Lines.{begun, begun_after, begun_behind}
@@ -36,11 +34,3 @@ begun_is opening c = go c.origins
     go : (os : List (Option Digest)) → begun_behind opening c.tx.inputs os ≡ filter_map (begun opening) (zip (inputs.Owned c.tx.gas ∷ filter is_object c.tx.inputs) os)
     go [] = refl
     go (o ∷ os) = behind opening c.tx.inputs [] os
-
--- after the origin of the gas coin
-pub behind_gas : {V E : Type 0} (items : V → List Assigned) (opening : List Object) (is : List Input) (os : List (Option Digest)) (none : List Assigned) (r : Result V E)
-    → none ≡ [] → 1 ≤ length os → IfOk r (λ v. items v ≡ begun_after opening none is (take (length os - 1) (drop 1 os))) → IfOk r (λ v. items v ≡ begun_behind opening is os)
-behind_gas items opening is [] none r nothing some ok = absurd (omega (arith, some))
-behind_gas items opening is (o ∷ os) none (Err e) nothing some ok = tt
-behind_gas items opening is (o ∷ os) none (Ok v) nothing some ok =
-    ok ∙ ap (begun_after opening none is) (tail_is o os) ∙ ap (λ xs. begun_after opening xs is os) nothing

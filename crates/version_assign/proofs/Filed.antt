@@ -1,59 +1,40 @@
 -- Where each certificate that waits is filed, as the tables move.
 use Rattle.std.proofs.Common.{◌≡◌, ℕ, zero, suc, Bool, true, false, not, ◌&&◌, ◌||◌, List, [], ◌∷◌, Option, Some, None, is_some, length, refl, ap, sym, subst, ◌∙◌, inl, inr, ◌-◌, ◌<◌, ◌≤◌, arith, drop, take, add-one}
 use Rattle.std.proofs.Math.ListN.{get_or}
-use Rattle.std.specs.Prelude.{◌⊎◌, find, filter_map}
-use Rattle.std.specs.List.{list_all, list_any}
+use Rattle.std.specs.Prelude.{◌⊎◌, find}
+use Rattle.std.specs.List.{list_all}
 use Rattle.std.specs.Ordering.{nat_cmp}
 use Rattle.std.specs.BTreeSet.{BTreeSet, contains}
 use Rattle.digest_core.specs.declared.Digest.{Digest}
 use Rattle.chain_types.specs.declared.objects.ObjectId.{ObjectId}
-use Rattle.chain_types.specs.declared.transactions.Input.{Input}
-use Rattle.chain_types.specs.declared.transactions.Input.TheVariants as inputs
 use Rattle.chain_types.specs.Equal.{id_eq}
-use Rattle.answer_types.specs.declared.answers.Held.{Held}
+use Rattle.protocol_spec.specs.declared.answers.Held.{Held}
 use Rattle.protocol_spec.proofs.Equality.{id_same, id_self}
 use Rattle.protocol_spec.proofs.ListLemmas.{tail_is}
 use Rattle.protocol_spec.proofs.Truth.{or_right, or_left, or_true}
 use Rattle.protocol_spec.specs.Chain.Words.{Has, first_of, first_some, where_true}
-use Rattle.protocol_spec.specs.Chain.Keys.{mutable_id}
 use Rattle.protocol_spec.specs.Chain.Tests.{has_id}
-use Rattle.protocol_spec.specs.Member.Admission.{Admission, has_room, is_admitted, is_free, is_origin_admitted, missing_origin, mutable_ids}
+use Rattle.protocol_spec.specs.Member.Admission.{Admission, full_id, has_room, is_admitted, is_free, is_origin_admitted, missing_origin, mutable_ids}
 use Rattle.version_assign.specs.declared.book.Row.{Row}
 use Rattle.version_assign.specs.declared.waits.Waits.{Waits}
 use Rattle.version_assign.specs.Books.{held_in, pending_in, row_at}
 use Rattle.version_assign.specs.Calls.{Admitting}
-use Rattle.version_assign.specs.Steps.{full_one, is_free_one}
-use Rattle.version_assign.specs.Waiting.{Grows, HasNext, IsFiled, Opens, Passes, PopsPlace, Reason, Turn, TurnsOn, has_turn, is_awake, is_full, is_id, is_open, is_queued, is_under, may_be_free, none_open, or_one_of, stands_behind, writes_at, writes_input, writes_row}
+use Rattle.version_assign.specs.Steps.{is_free_one}
+use Rattle.version_assign.specs.Waiting.{Grows, HasNext, IsFiled, Opens, Passes, PopsPlace, Reason, Turn, TurnsOn, has_turn, is_awake, is_full, is_open, is_queued, is_under, may_be_free, none_open, or_one_of, stands_behind, writes_at, writes_row}
 use Rattle.version_assign.proofs.Freeing.{alone, free_is, place_found, place_passed}
 use Rattle.version_assign.proofs.Moving.{all_at}
 use Rattle.version_assign.proofs.Rows.{clash}
 
--- ---- what an input writes
+-- ---- what is written
 
-pub all_written : (is : List Input) (id : ObjectId) → has_id (filter_map mutable_id is) id ≡ list_any (λ (i : Input). writes_input i id) is
-all_written [] id = refl
-all_written (inputs.Pure bytes ∷ is) id = all_written is id
-all_written (inputs.Owned r ∷ is) id = all_written is id
-all_written (inputs.Immutable r ∷ is) id = all_written is id
-all_written (inputs.Shared x initial false ∷ is) id = all_written is id
-all_written (inputs.Shared x initial true ∷ is) id = ap (λ b. id_eq id x || b) (all_written is id)
-
-or_none : (b : Bool) → (b || false) ≡ b
-or_none true = refl
-or_none false = refl
-
-pub written_is : (is : List Input) (id : ObjectId) → or_one_of is none_open id ≡ has_id (filter_map mutable_id is) id
-written_is is id = or_none (list_any (λ (i : Input). writes_input i id) is) ∙ sym (all_written is id)
+pub written_is : (ids : List ObjectId) (id : ObjectId) → or_one_of ids none_open id ≡ has_id ids id
+written_is ids id = or_none (has_id ids id)
+  where
+    or_none : (b : Bool) → (b || false) ≡ b
+    or_none true = refl
+    or_none false = refl
 
 -- ---- one step after the other
-
-pub grows_then : (a b c : Waits) → Grows a b → Grows b c → Grows a c
-grows_then a b c x y = record {
-  whole = λ w. x.whole (y.whole w);
-  awake = λ p h. y.awake p (x.awake p h);
-  behind = λ n p h. y.behind n p (x.behind n p h);
-  queues = λ n p h. y.queues n p (x.queues n p h);
-}
 
 module _ (rows : List (Option Row)) (admits : Digest → Bool) (room : ObjectId → Bool) where
   turn_grows : (due : ObjectId → Bool) (old new : Waits) → ((p : ℕ) → is_awake old p ≡ true → is_awake new p ≡ true) → (id : ObjectId) (q : ℕ) → Turn rows old room due id q → Turn rows new room due id q
@@ -115,47 +96,35 @@ module _ (rows : List (Option Row)) (admits : Digest → Bool) (room : ObjectId 
 
 -- ---- queues are opened
 
--- what is due with this input, if it writes this object
-due_with : (i : Input) (id : ObjectId) (rest : List Input) (due : ObjectId → Bool) (x : ObjectId) → mutable_id i ≡ Some id → or_one_of (i ∷ rest) due x ≡ true → (id_eq x id || or_one_of rest due x) ≡ true
-due_with i id rest due x is e = regrouped (id_eq x id) (list_any (λ (j : Input). writes_input j x) rest) (due x) (sym (ap (λ o. (is_id o x || list_any (λ (j : Input). writes_input j x) rest) || due x) is) ∙ e)
+-- what is due with this object
+due_with : (id : ObjectId) (rest : List ObjectId) (due : ObjectId → Bool) (x : ObjectId) → or_one_of (id ∷ rest) due x ≡ true → (id_eq x id || or_one_of rest due x) ≡ true
+due_with id rest due x e = regrouped (id_eq x id) (has_id rest x) (due x) e
   where
     regrouped : (a b c : Bool) → ((a || b) || c) ≡ true → (a || (b || c)) ≡ true
     regrouped true b c e = refl
     regrouped false b c e = e
 
 -- the object has room, and its queue was opened
-pub opened_room : (rows : List (Option Row)) (room : ObjectId → Bool) (old new : Waits) (i : Input) (id : ObjectId) (rest : List Input) → mutable_id i ≡ Some id → TurnsOn rows old new id → Opens rows room old new (i ∷ rest) rest
-opened_room rows room old new i id rest is t = record {
+pub opened_room : (rows : List (Option Row)) (room : ObjectId → Bool) (old new : Waits) (id : ObjectId) (rest : List ObjectId) → TurnsOn rows old new id → Opens rows room old new (id ∷ rest) rest
+opened_room rows room old new id rest t = record {
   at = λ admits due filed.
       filed_turns rows admits room (or_one_of rest due) id old new t
-      (filed_due rows admits room (or_one_of (i ∷ rest) due) (λ x. id_eq x id || or_one_of rest due x) old (λ x e. inl (due_with i id rest due x is e)) filed);
+      (filed_due rows admits room (or_one_of (id ∷ rest) due) (λ x. id_eq x id || or_one_of rest due x) old (λ x e. inl (due_with id rest due x e)) filed);
 }
 
 -- it has its writers
-pub opened_full : (rows : List (Option Row)) (room : ObjectId → Bool) (w : Waits) (i : Input) (id : ObjectId) (rest : List Input) → mutable_id i ≡ Some id → room id ≡ false → Opens rows room w w (i ∷ rest) rest
-opened_full rows room w i id rest is full = record {
+pub opened_full : (rows : List (Option Row)) (room : ObjectId → Bool) (w : Waits) (id : ObjectId) (rest : List ObjectId) → room id ≡ false → Opens rows room w w (id ∷ rest) rest
+opened_full rows room w id rest full = record {
   at = λ admits due filed.
-      filed_due rows admits room (or_one_of (i ∷ rest) due) (or_one_of rest due) w (λ x e. go due x (id_eq x id) refl (due_with i id rest due x is e)) filed;
+      filed_due rows admits room (or_one_of (id ∷ rest) due) (or_one_of rest due) w (λ x e. go due x (id_eq x id) refl (due_with id rest due x e)) filed;
 }
   where
     go : (due : ObjectId → Bool) (x : ObjectId) (b : Bool) → id_eq x id ≡ b → (b || or_one_of rest due x) ≡ true → (or_one_of rest due x ≡ true) ⊎ (room x ≡ false)
     go due x true same e = inr (ap room (id_same x id same) ∙ full)
     go due x false same e = inl e
 
--- the input writes no object
-pub opened_none : (rows : List (Option Row)) (room : ObjectId → Bool) (w : Waits) (i : Input) (rest : List Input) → mutable_id i ≡ None → Opens rows room w w (i ∷ rest) rest
-opened_none rows room w i rest none = record {
-  at = λ admits due filed.
-      filed_due rows admits room (or_one_of (i ∷ rest) due) (or_one_of rest due) w (λ x e. inl (sym (ap (λ o. (is_id o x || list_any (λ (j : Input). writes_input j x) rest) || due x) none) ∙ e)) filed;
-}
-
-pub opens_then : (rows : List (Option Row)) (room : ObjectId → Bool) (a b c : Waits) (all some rest : List Input) → Opens rows room a b all some → Opens rows room b c some rest → Opens rows room a c all rest
+pub opens_then : (rows : List (Option Row)) (room : ObjectId → Bool) (a b c : Waits) (all some rest : List ObjectId) → Opens rows room a b all some → Opens rows room b c some rest → Opens rows room a c all rest
 opens_then rows room a b c all some rest x y = record { at = λ admits due filed. y.at admits due (x.at admits due filed) }
-
--- ---- a queue
-
-pub nothing_passed : (rows : List (Option Row)) (w : Waits) (id : ObjectId) → Passes rows w w id
-nothing_passed rows w id = record { whole = λ h. h; awake = λ p h. h; behind = λ n p h. h; queues = λ n q h. inl h }
 
 -- ---- one that is not free
 
@@ -172,25 +141,20 @@ missing_has a (Some d ∷ os) tx e = go (is_admitted a.admitted d) refl e (missi
     go true is f more = let m : Has os (Some tx) × (is_admitted a.admitted tx ≡ false) = more (sym (alone (first_of (missing_origin a) os)) ∙ f) in (inr m.0, m.1)
     go false is f more = (inl f, ap (is_admitted a.admitted) (sym (same f)) ∙ is)
 
-pub full_has : (writers : Option ℕ) (a : Admission) (is : List Input) (id : ObjectId) → first_of (full_one writers a) is ≡ Some id → (has_id (filter_map mutable_id is) id ≡ true) × (has_room writers a id ≡ false)
+pub full_has : (writers : Option ℕ) (a : Admission) (ids : List ObjectId) (id : ObjectId) → first_of (full_id writers a) ids ≡ Some id → (has_id ids id ≡ true) × (has_room writers a id ≡ false)
 full_has writers a [] id e = absurd (cc)
-full_has writers a (inputs.Pure bytes ∷ is) id e = full_has writers a is id (sym (alone (first_of (full_one writers a) is)) ∙ e)
-full_has writers a (inputs.Owned r ∷ is) id e = full_has writers a is id (sym (alone (first_of (full_one writers a) is)) ∙ e)
-full_has writers a (inputs.Immutable r ∷ is) id e = full_has writers a is id (sym (alone (first_of (full_one writers a) is)) ∙ e)
-full_has writers a (inputs.Shared x initial false ∷ is) id e = full_has writers a is id (sym (alone (first_of (full_one writers a) is)) ∙ e)
-full_has writers a (inputs.Shared x initial true ∷ is) id e = go (has_room writers a x) refl e (full_has writers a is id)
+full_has writers a (x ∷ ids) id e = go (has_room writers a x) refl e (full_has writers a ids id)
   where
     same : Some x ≡ Some id → x ≡ id
     same f = cc
 
-    go : (b : Bool) → has_room writers a x ≡ b → first_some (where_true (not b) x ∷ first_of (full_one writers a) is ∷ []) ≡ Some id
-        → (first_of (full_one writers a) is ≡ Some id → (has_id (filter_map mutable_id is) id ≡ true) × (has_room writers a id ≡ false))
-        → ((id_eq id x || has_id (filter_map mutable_id is) id) ≡ true) × (has_room writers a id ≡ false)
+    go : (b : Bool) → has_room writers a x ≡ b → first_some (where_true (not b) x ∷ first_of (full_id writers a) ids ∷ []) ≡ Some id
+        → (first_of (full_id writers a) ids ≡ Some id → (has_id ids id ≡ true) × (has_room writers a id ≡ false))
+        → ((id_eq id x || has_id ids id) ≡ true) × (has_room writers a id ≡ false)
     go true room f more =
-        let m : (has_id (filter_map mutable_id is) id ≡ true) × (has_room writers a id ≡ false) = more (sym (alone (first_of (full_one writers a) is)) ∙ f) in
-        (or_right (id_eq id x) (has_id (filter_map mutable_id is) id) m.0, m.1)
-    go false room f more =
-        (or_left (id_eq id x) (has_id (filter_map mutable_id is) id) (ap (id_eq id) (same f) ∙ id_self id), ap (has_room writers a) (sym (same f)) ∙ room)
+        let m : (has_id ids id ≡ true) × (has_room writers a id ≡ false) = more (sym (alone (first_of (full_id writers a) ids)) ∙ f) in
+        (or_right (id_eq id x) (has_id ids id) m.0, m.1)
+    go false room f more = (or_left (id_eq id x) (has_id ids id) (ap (id_eq id) (same f) ∙ id_self id), ap (has_room writers a) (sym (same f)) ∙ room)
 
 -- what a filed certificate waits for keeps it from being free
 pub origin_holds : (a : Admission) (os : List (Option Digest)) (tx : Digest) → Has os (Some tx) → is_admitted a.admitted tx ≡ false → list_all (is_origin_admitted a) os ≡ false
@@ -292,17 +256,17 @@ turned_on rows old at mid new id place passes whole awake behind pops writes gro
         after (inl u) = inl (grows.queues n q u)
         after (inr p) = inr (p.0, λ e. ap (is_awake new) p.1 ∙ woken w)
 
-pub opens_first : (rows : List (Option Row)) (room : ObjectId → Bool) (a b c : Waits) (all rest : List Input) (x : Input) → x ≡ get_or rest 0 x → 1 ≤ length rest → Opens rows room a b all rest → ((more : List Input) → Opens rows room b c (x ∷ more) more)
+pub opens_first : (rows : List (Option Row)) (room : ObjectId → Bool) (a b c : Waits) (all rest : List ObjectId) (other : ObjectId) → 1 ≤ length rest → Opens rows room a b all rest → ((more : List ObjectId) → Opens rows room b c (get_or rest 0 other ∷ more) more)
     → Opens rows room a c all (take (length rest - 1) (drop 1 rest))
-opens_first rows room a b c all [] x is some done one = absurd (omega (arith, some))
-opens_first rows room a b c all (y ∷ ys) x is some done one =
-    subst (λ (more : List Input). Opens rows room a c all more) (sym (tail_is y ys))
-    (opens_then rows room a b c all (y ∷ ys) ys done (subst (λ (z : Input). Opens rows room b c (z ∷ ys) ys) is (one ys)))
+opens_first rows room a b c all [] other some done one = absurd (omega (arith, some))
+opens_first rows room a b c all (y ∷ ys) other some done one =
+    subst (λ (more : List ObjectId). Opens rows room a c all more) (sym (tail_is y ys))
+    (opens_then rows room a b c all (y ∷ ys) ys done (one ys))
 
 abbrev not_some : {B : Type 0} → Option B → Bool
 not_some o = not (is_some o)
 
 -- if nothing is missing and no object is full, it is free
-pub must_wait : {A : Type 0} → (writers : Option ℕ) (a : Admission) (h : Held) → first_of (missing_origin a) h.cert.origins ≡ None → first_of (full_one writers a) h.cert.tx.inputs ≡ None → is_free writers a h ≡ false → A
+pub must_wait : {A : Type 0} → (writers : Option ℕ) (a : Admission) (h : Held) → first_of (missing_origin a) h.cert.origins ≡ None → first_of (full_id writers a) (mutable_ids h.cert) ≡ None → is_free writers a h ≡ false → A
 must_wait writers a h missing full off =
-    absurd (clash (sym (ap not_some full) ∙ ap (λ (b : Bool). b && not_some (first_of (full_one writers a) h.cert.tx.inputs)) (sym (ap not_some missing)) ∙ free_is writers a h ∙ off))
+    absurd (clash (sym (ap not_some full) ∙ ap (λ (b : Bool). b && not_some (first_of (full_id writers a) (mutable_ids h.cert))) (sym (ap not_some missing)) ∙ free_is writers a h ∙ off))

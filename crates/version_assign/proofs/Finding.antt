@@ -6,15 +6,14 @@ use Rattle.std.proofs.lemmas.Bool.{ltb-false}
 use Rattle.std.specs.Map.{lookup}
 use Rattle.digest_core.specs.declared.Digest.{Digest}
 use Rattle.chain_types.specs.Equal.{digest_eq}
-use Rattle.answer_types.specs.declared.answers.Held.{Held}
+use Rattle.protocol_spec.specs.declared.answers.Held.{Held}
 use Rattle.protocol_spec.proofs.Equality.{digest_turned, digest_same}
 use Rattle.protocol_spec.proofs.Truth.{or_false_left, or_false_right}
 use Rattle.protocol_spec.specs.Chain.Words.{repeats}
-use Rattle.protocol_spec.specs.Member.Admission.{Admission, Admitted, assigned_in, assigned_of, digest_of_admitted, is_admitted}
+use Rattle.protocol_spec.specs.Member.Admission.{Admission, Admitted, assigned_in, assigned_of, is_admitted}
 use Rattle.version_assign.specs.declared.book.Admit.{Admit}
 use Rattle.version_assign.specs.declared.book.Row.{Row}
 use Rattle.version_assign.specs.Books.{Aligned, admitted_as, held_in, pending_in, placed, row_at, row_in}
-use Rattle.version_assign.specs.Steps.{digest_in}
 
 pub admitted_is : (es : List (Digest × Admit)) (tx : Digest) → is_some (lookup (digest_eq tx) es) ≡ is_admitted (map admitted_as es) tx
 admitted_is [] tx = refl
@@ -44,12 +43,6 @@ found_assigned es a tx o is found =
 
 pub found_version : (es : List (Digest × Admit)) (tx : Digest) (o : Option Admit) → o ≡ lookup (digest_eq tx) es → option_map (λ (x : Admit). x.version) o ≡ option_map (λ (x : Admitted). x.version) (find (λ (x : Admitted). digest_eq x.digest tx) (map admitted_as es))
 found_version es tx o found = ap (option_map (λ (x : Admit). x.version)) found ∙ found_admitted (λ (x : Admitted). x.version) (λ (x : Admit). x.version) (λ e. refl) es tx
-
-pub found_place : (es : List (Digest × Admit)) (place : ℕ) → option_map digest_of_admitted (slice_get (map admitted_as es) place) ≡ option_map digest_in (slice_get es place)
-found_place [] zero = refl
-found_place [] (suc place) = refl
-found_place (e ∷ es) zero = refl
-found_place (e ∷ es) (suc place) = found_place es place
 
 -- ---- what is found of one that waits
 

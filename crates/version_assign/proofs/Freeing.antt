@@ -1,19 +1,16 @@
 -- Whether a certificate is free, and the first place at which a free one waits.
 use Rattle.std.proofs.Common.{◌≡◌, ℕ, zero, suc, Bool, true, false, cond, not, ◌&&◌, List, [], ◌∷◌, Option, Some, None, is_some, length, refl, ap, sym, ◌∙◌, ◌<◌, ◌+◌, drop, arith, add-one}
-use Rattle.std.specs.Prelude.{find, filter_map}
+use Rattle.std.specs.Prelude.{find}
 use Rattle.std.specs.List.{list_all}
 use Rattle.digest_core.specs.declared.Digest.{Digest}
 use Rattle.chain_types.specs.declared.objects.ObjectId.{ObjectId}
-use Rattle.chain_types.specs.declared.transactions.Input.{Input}
-use Rattle.chain_types.specs.declared.transactions.Input.TheVariants as inputs
-use Rattle.answer_types.specs.declared.answers.Held.{Held}
+use Rattle.protocol_spec.specs.declared.answers.Held.{Held}
 use Rattle.protocol_spec.specs.Chain.Words.{first_of, first_some, where_true}
-use Rattle.protocol_spec.specs.Chain.Keys.{mutable_id}
-use Rattle.protocol_spec.specs.Member.Admission.{Admission, full_id, has_room, is_admitted, is_free, is_origin_admitted, missing_origin, without_room}
+use Rattle.protocol_spec.specs.Member.Admission.{Admission, full_id, has_room, is_admitted, is_free, is_origin_admitted, missing_origin, mutable_ids, without_room}
 use Rattle.version_assign.specs.declared.book.Row.{Row}
 use Rattle.version_assign.specs.Books.{held_in, pending_in, row_at}
 use Rattle.version_assign.specs.Calls.{Admitting}
-use Rattle.version_assign.specs.Steps.{full_one, is_free_one}
+use Rattle.version_assign.specs.Steps.{is_free_one}
 
 pub alone : {A : Type 0} → (o : Option A) → first_some (o ∷ []) ≡ o
 alone None = refl
@@ -32,24 +29,20 @@ origins_free a (Some tx ∷ os) = by (is_admitted a.admitted tx) (origins_free a
     by true more = more ∙ sym (passed (first_of (missing_origin a) os))
     by false more = refl
 
-room_free : (writers : Option ℕ) (a : Admission) (is : List Input) → list_all (has_room writers a) (filter_map mutable_id is) ≡ not (is_some (first_of (full_one writers a) is))
+room_free : (writers : Option ℕ) (a : Admission) (ids : List ObjectId) → list_all (has_room writers a) ids ≡ not (is_some (first_of (full_id writers a) ids))
 room_free writers a [] = refl
-room_free writers a (inputs.Pure bytes ∷ is) = room_free writers a is ∙ sym (passed (first_of (full_one writers a) is))
-room_free writers a (inputs.Owned r ∷ is) = room_free writers a is ∙ sym (passed (first_of (full_one writers a) is))
-room_free writers a (inputs.Immutable r ∷ is) = room_free writers a is ∙ sym (passed (first_of (full_one writers a) is))
-room_free writers a (inputs.Shared id initial false ∷ is) = room_free writers a is ∙ sym (passed (first_of (full_one writers a) is))
-room_free writers a (inputs.Shared id initial true ∷ is) = by (has_room writers a id) (room_free writers a is)
+room_free writers a (id ∷ ids) = by (has_room writers a id) (room_free writers a ids)
   where
-    by : (b : Bool) → list_all (has_room writers a) (filter_map mutable_id is) ≡ not (is_some (first_of (full_one writers a) is))
-        → (b && list_all (has_room writers a) (filter_map mutable_id is)) ≡ not (is_some (first_some (where_true (not b) id ∷ first_of (full_one writers a) is ∷ [])))
-    by true more = more ∙ sym (passed (first_of (full_one writers a) is))
+    by : (b : Bool) → list_all (has_room writers a) ids ≡ not (is_some (first_of (full_id writers a) ids))
+        → (b && list_all (has_room writers a) ids) ≡ not (is_some (first_some (where_true (not b) id ∷ first_of (full_id writers a) ids ∷ [])))
+    by true more = more ∙ sym (passed (first_of (full_id writers a) ids))
     by false more = refl
 
 -- what the code looks at is whether it is free
-pub free_is : (writers : Option ℕ) (a : Admission) (h : Held) → (not (is_some (first_of (missing_origin a) h.cert.origins)) && not (is_some (first_of (full_one writers a) h.cert.tx.inputs))) ≡ is_free writers a h
+pub free_is : (writers : Option ℕ) (a : Admission) (h : Held) → (not (is_some (first_of (missing_origin a) h.cert.origins)) && not (is_some (first_of (full_id writers a) (mutable_ids h.cert)))) ≡ is_free writers a h
 free_is writers a h =
-    ap (λ b. b && not (is_some (first_of (full_one writers a) h.cert.tx.inputs))) (sym (origins_free a h.cert.origins))
-    ∙ ap (λ b. list_all (is_origin_admitted a) h.cert.origins && b) (sym (room_free writers a h.cert.tx.inputs))
+    ap (λ b. b && not (is_some (first_of (full_id writers a) (mutable_ids h.cert)))) (sym (origins_free a h.cert.origins))
+    ∙ ap (λ b. list_all (is_origin_admitted a) h.cert.origins && b) (sym (room_free writers a (mutable_ids h.cert)))
 
 pub flipped : (a b : Bool) → a ≡ not b → not a ≡ b
 flipped true true e = absurd (cc)
@@ -57,27 +50,18 @@ flipped true false e = refl
 flipped false true e = refl
 flipped false false e = absurd (cc)
 
-pub free_both : (writers : Option ℕ) (a : Admission) (h : Held) (m : Option Digest) (f : Option ObjectId) (x y : Bool) → m ≡ first_of (missing_origin a) h.cert.origins → f ≡ first_of (full_one writers a) h.cert.tx.inputs
+pub free_both : (writers : Option ℕ) (a : Admission) (h : Held) (m : Option Digest) (f : Option ObjectId) (x y : Bool) → m ≡ first_of (missing_origin a) h.cert.origins → f ≡ first_of (full_id writers a) (mutable_ids h.cert)
     → is_some m ≡ not x → is_some f ≡ not y → x ≡ true → y ≡ is_free writers a h
 free_both writers a h m f x y m_is f_is xm yf xt =
     sym (flipped (is_some f) y yf) ∙ ap (λ o. not (is_some o)) f_is
-    ∙ ap (λ b. b && not (is_some (first_of (full_one writers a) h.cert.tx.inputs))) (sym (sym (ap (λ o. not (is_some o)) m_is) ∙ flipped (is_some m) x xm ∙ xt))
+    ∙ ap (λ b. b && not (is_some (first_of (full_id writers a) (mutable_ids h.cert)))) (sym (sym (ap (λ o. not (is_some o)) m_is) ∙ flipped (is_some m) x xm ∙ xt))
     ∙ free_is writers a h
 
 pub free_not : (writers : Option ℕ) (a : Admission) (h : Held) (m : Option Digest) (x : Bool) → m ≡ first_of (missing_origin a) h.cert.origins → is_some m ≡ not x → x ≡ false → x ≡ is_free writers a h
 free_not writers a h m x m_is xm xf =
     xf
-    ∙ ap (λ b. b && not (is_some (first_of (full_one writers a) h.cert.tx.inputs))) (sym (sym (ap (λ o. not (is_some o)) m_is) ∙ flipped (is_some m) x xm ∙ xf))
+    ∙ ap (λ b. b && not (is_some (first_of (full_id writers a) (mutable_ids h.cert)))) (sym (sym (ap (λ o. not (is_some o)) m_is) ∙ flipped (is_some m) x xm ∙ xf))
     ∙ free_is writers a h
-
--- the first object that is full, among the ids that are written
-pub full_ids : (writers : Option ℕ) (a : Admission) (is : List Input) → first_of (full_one writers a) is ≡ first_of (full_id writers a) (filter_map mutable_id is)
-full_ids writers a [] = refl
-full_ids writers a (inputs.Pure bytes ∷ is) = alone (first_of (full_one writers a) is) ∙ full_ids writers a is
-full_ids writers a (inputs.Owned r ∷ is) = alone (first_of (full_one writers a) is) ∙ full_ids writers a is
-full_ids writers a (inputs.Immutable r ∷ is) = alone (first_of (full_one writers a) is) ∙ full_ids writers a is
-full_ids writers a (inputs.Shared id initial false ∷ is) = alone (first_of (full_one writers a) is) ∙ full_ids writers a is
-full_ids writers a (inputs.Shared id initial true ∷ is) = ap (λ o. first_some (where_true (not (has_room writers a id)) id ∷ o ∷ [])) (full_ids writers a is)
 
 -- an origin is missing
 pub held_back : (writers : Option ℕ) (a : Admission) (h : Held) (m : Option Digest) → m ≡ first_of (missing_origin a) h.cert.origins → is_some m ≡ true
@@ -85,10 +69,10 @@ pub held_back : (writers : Option ℕ) (a : Admission) (h : Held) (m : Option Di
 held_back writers a h m is missing = sym (ap (λ b. without_room b writers a h) (origins_free a h.cert.origins ∙ ap (λ o. not (is_some o)) (sym is) ∙ ap not missing))
 
 -- none is
-pub let_on : (writers : Option ℕ) (a : Admission) (h : Held) (m : Option Digest) (f : Option ObjectId) → m ≡ first_of (missing_origin a) h.cert.origins → is_some m ≡ false → f ≡ first_of (full_one writers a) h.cert.tx.inputs
+pub let_on : (writers : Option ℕ) (a : Admission) (h : Held) (m : Option Digest) (f : Option ObjectId) → m ≡ first_of (missing_origin a) h.cert.origins → is_some m ≡ false → f ≡ first_of (full_id writers a) (mutable_ids h.cert)
     → f ≡ without_room (list_all (is_origin_admitted a) h.cert.origins) writers a h
 let_on writers a h m f is missing found =
-    found ∙ full_ids writers a h.cert.tx.inputs
+    found
     ∙ sym (ap (λ b. without_room b writers a h) (origins_free a h.cert.origins ∙ ap (λ o. not (is_some o)) (sym is) ∙ ap not missing))
 
 -- ---- places

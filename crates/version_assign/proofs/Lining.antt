@@ -7,7 +7,7 @@ use Rattle.indexmap.specs.IndexMap.{insert_entry}
 use Rattle.digest_core.specs.declared.Digest.{Digest}
 use Rattle.chain_types.specs.declared.objects.ObjectId.{ObjectId}
 use Rattle.chain_types.specs.Equal.{id_eq}
-use Rattle.answer_types.specs.declared.answers.Assigned.{Assigned}
+use Rattle.protocol_spec.specs.declared.answers.Assigned.{Assigned}
 use Rattle.version_assign.specs.declared.lines.Line.{Line}
 use Rattle.version_assign.specs.Lines.{LineMap, are_lined, clear_one, cleared, has_line, line_at, move_one, moved, no_line}
 use Rattle.tables.proofs.Lookups.{lookup_insert}
@@ -62,28 +62,7 @@ pub record IsMade (old new : LineMap) (rest all : List Assigned) : Type 0 where
   pub kept : (q : ObjectId) → has_line old q ≡ true → has_line new q ≡ true
   pub made : (es : LineMap) → KeepsLines new es → are_lined es rest ≡ true → are_lined es all ≡ true
 
-pub one_made : (old mid new : LineMap) (rest all : List Assigned) (x : Assigned) → x ≡ get_or rest 0 x → 1 ≤ length rest → IsMade old mid rest all
-    → ((q : ObjectId) → line_at new q ≡ line_at mid q) → ((q : ObjectId) → has_line mid q ≡ true → has_line new q ≡ true) → has_line new x.id ≡ true
-    → IsMade old new (take (length rest - 1) (drop 1 rest)) all
-one_made old mid new [] all x first some is same kept here = absurd (omega (arith, some))
-one_made old mid new (y ∷ ys) all x first some is same kept here =
-    subst (λ (zs : List Assigned). IsMade old new zs all) (sym (tail_is y ys)) (record {
-      same = λ q. same q ∙ is.same q;
-      kept = λ q has. kept q (is.kept q has);
-      made = λ es more rest.
-          is.made es (record { at = λ q has. more.at q (kept q has) })
-          (ap (λ c. c && are_lined es ys) (more.at y.id (subst (λ (z : Assigned). has_line new z.id ≡ true) first here)) ∙ rest);
-    })
-
 -- ---- loops over what was assigned
-
-pub lined_first : (es : LineMap) (xs : List Assigned) (d : Assigned) → 1 ≤ length xs → are_lined es xs ≡ true → has_line es (get_or xs 0 d).id ≡ true
-lined_first es [] d some all = absurd (omega (arith, some))
-lined_first es (x ∷ xs) d some all = go (has_line es x.id) all
-  where
-    go : (b : Bool) → (b && are_lined es xs) ≡ true → b ≡ true
-    go true all = refl
-    go false all = absurd (cc)
 
 lined_rest : (es : LineMap) (x : Assigned) (xs : List Assigned) → are_lined es (x ∷ xs) ≡ true → are_lined es xs ≡ true
 lined_rest es x xs all = go (has_line es x.id) all

@@ -1,6 +1,5 @@
 -- Lists that are collected from a place on.
-use Rattle.std.proofs.Common.{◌≡◌, ℕ, zero, suc, List, [], ◌∷◌, ◌++◌, Option, Some, None, length, map, refl, ap, sym, ◌∙◌, ◌+◌, ◌≤◌, ◌<◌, arith, add-one, append_assoc, append-nil, drop, slice_get, option_map}
-use Rattle.std.proofs.Math.ListN.{drop_of_length-le, get_or}
+use Rattle.std.proofs.Common.{◌≡◌, ℕ, zero, suc, List, [], ◌∷◌, ◌++◌, Option, Some, None, length, map, refl, ap, sym, ◌∙◌, ◌+◌, ◌<◌, arith, add-one, append_assoc, drop, slice_get, option_map}
 
 -- the next one, and those after it
 pub next_at : {A : Type 0} → (xs : List A) (i : ℕ) (x : A) → slice_get xs i ≡ Some x → drop i xs ≡ x ∷ drop (suc i) xs
@@ -20,19 +19,11 @@ one_listed f xs i x list more all at is same =
     ∙ ap (λ ys. list ++ map f ys) (sym (next_at xs i x at))
     ∙ same)
 
-pub all_listed : {A B : Type 0} → (f : A → B) (xs : List A) (i : ℕ) (list all : List B) → length xs ≤ i → list ++ map f (drop i xs) ≡ all → list ≡ all
-all_listed f xs i list all past same = sym (append-nil list) ∙ ap (λ ys. list ++ map f ys) (sym (drop_of_length-le xs past)) ∙ same
-
 -- within the list there is one
 pub some_at : {A : Type 0} → (xs : List A) (i : ℕ) → i < length xs → slice_get xs i ≡ None → ⊥
 some_at [] i within none = absurd (omega (arith, within))
 some_at (x ∷ xs) zero within none = cc
 some_at (x ∷ xs) (suc i) within none = some_at xs i (omega arith) none
-
-pub get_at : {A : Type 0} → (xs : List A) (i : ℕ) (d : A) → i < length xs → slice_get xs i ≡ Some (get_or xs i d)
-get_at [] i d within = absurd (omega (arith, within))
-get_at (x ∷ xs) zero d within = refl
-get_at (x ∷ xs) (suc i) d within = get_at xs i d (omega arith)
 
 pub next_listed : {A B : Type 0} → (f : A → B) (xs : List A) (i : ℕ) (y : B) (list more all : List B) → option_map f (slice_get xs i) ≡ Some y → more ≡ list ++ y ∷ [] → list ++ map f (drop i xs) ≡ all → more ++ map f (drop (i + 1) xs) ≡ all
 next_listed {A} {B} f xs i y list more all at is same = go (slice_get xs i) refl at

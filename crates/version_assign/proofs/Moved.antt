@@ -3,13 +3,12 @@ use Rattle.std.proofs.Common.{◌≡◌, ℕ, zero, suc, Bool, true, false, ◌|
 use Rattle.std.specs.Prelude.{◌⊎◌, count_by, nat_lt}
 use Rattle.digest_core.specs.declared.Digest.{Digest}
 use Rattle.chain_types.specs.declared.objects.ObjectId.{ObjectId}
-use Rattle.chain_types.specs.declared.transactions.Input.{Input}
 use Rattle.chain_types.specs.Equal.{digest_eq}
 use Rattle.chain_messages.specs.declared.messages.Certificate.{Certificate}
-use Rattle.answer_types.specs.declared.answers.Held.{Held}
+use Rattle.protocol_spec.specs.declared.answers.Held.{Held}
 use Rattle.protocol_spec.proofs.Equality.{digest_same}
 use Rattle.protocol_spec.specs.Chain.Words.{Has}
-use Rattle.protocol_spec.specs.Member.Admission.{has_room, is_admitted, writes}
+use Rattle.protocol_spec.specs.Member.Admission.{has_room, is_admitted, mutable_ids, writes}
 use Rattle.version_assign.specs.declared.book.Admit.{Admit}
 use Rattle.version_assign.specs.declared.book.Book.{Book}
 use Rattle.version_assign.specs.declared.book.Row.{Row}
@@ -17,7 +16,7 @@ use Rattle.version_assign.specs.declared.waits.Waits.{Waits}
 use Rattle.version_assign.specs.Books.{admission_of, admitted_as, row_at}
 use Rattle.version_assign.specs.Steps.{TakesOut}
 use Rattle.version_assign.specs.Waiting.{Aside, Frees, IsFiled, IsFiledIn, Opens, OpensFound, OpensSince, Reason, Rests, Turn, admits_also, admits_in, aside_behind, aside_queued, has_turn, is_awake, is_full, is_open, is_queued, is_under, may_be_free, none_open, or_one_of, room_in, stands_behind, writes_at, writes_row, wrote_one}
-use Rattle.version_assign.proofs.Filed.{all_written, filed_due, written_is}
+use Rattle.version_assign.proofs.Filed.{filed_due, written_is}
 use Rattle.version_assign.proofs.Listing.{next_at, some_at}
 use Rattle.version_assign.proofs.Rows.{clash}
 
@@ -54,26 +53,26 @@ module _ (rows : List (Option Row)) (admits : Digest → Bool) (room : ObjectId 
 
   -- one waits there, and is filed: the queues of what it writes are due
   pub rests_aside : (old new : Waits) (y : Row) → Rests old new place → row_at rows place ≡ Some y → (new.whole ≡ true → Aside new admits room place y.held.cert) → IsFiled rows old admits room none_open
-      → IsFiled rows new admits room (or_one_of y.held.cert.tx.inputs none_open)
+      → IsFiled rows new admits room (or_one_of (mutable_ids y.held.cert) none_open)
   rests_aside old new y r there aside filed = record { at = λ whole q x here. go whole q x here (filed.at (r.whole whole) q x here) }
     where
-      named : (p : ℕ) (id : ObjectId) → p ≡ place → writes_at rows p id ≡ true → or_one_of y.held.cert.tx.inputs none_open id ≡ true
-      named p id is writes = written_is y.held.cert.tx.inputs id ∙ sym (ap (λ o. writes_row o id) (ap (row_at rows) is ∙ there)) ∙ writes
+      named : (p : ℕ) (id : ObjectId) → p ≡ place → writes_at rows p id ≡ true → or_one_of (mutable_ids y.held.cert) none_open id ≡ true
+      named p id is writes = written_is (mutable_ids y.held.cert) id ∙ sym (ap (λ o. writes_row o id) (ap (row_at rows) is ∙ there)) ∙ writes
 
-      turn_of : (id : ObjectId) (q : ℕ) → Turn rows old room none_open id q → Turn rows new room (or_one_of y.held.cert.tx.inputs none_open) id q
+      turn_of : (id : ObjectId) (q : ℕ) → Turn rows old room none_open id q → Turn rows new room (or_one_of (mutable_ids y.held.cert) none_open) id q
       turn_of id q (is_full full) = is_full full
       turn_of id q (is_open e) = absurd (clash (sym e))
       turn_of id q (has_turn p awake before writes) = by (r.awake p awake)
         where
-          by : (p ≡ place) ⊎ (is_awake new p ≡ true) → Turn rows new room (or_one_of y.held.cert.tx.inputs none_open) id q
+          by : (p ≡ place) ⊎ (is_awake new p ≡ true) → Turn rows new room (or_one_of (mutable_ids y.held.cert) none_open) id q
           by (inl is) = is_open (named p id is writes)
           by (inr still) = has_turn p still before writes
 
-      put : (x : Row) → y ≡ x → Aside new admits room place y.held.cert → Reason rows new admits room (or_one_of y.held.cert.tx.inputs none_open) place x.held.cert
-      put x is (aside_behind tx has off under) = subst (λ (z : Row). Reason rows new admits room (or_one_of y.held.cert.tx.inputs none_open) place z.held.cert) is (stands_behind tx has off under)
-      put x is (aside_queued id has under full) = subst (λ (z : Row). Reason rows new admits room (or_one_of y.held.cert.tx.inputs none_open) place z.held.cert) is (is_queued id has under (is_full full))
+      put : (x : Row) → y ≡ x → Aside new admits room place y.held.cert → Reason rows new admits room (or_one_of (mutable_ids y.held.cert) none_open) place x.held.cert
+      put x is (aside_behind tx has off under) = subst (λ (z : Row). Reason rows new admits room (or_one_of (mutable_ids y.held.cert) none_open) place z.held.cert) is (stands_behind tx has off under)
+      put x is (aside_queued id has under full) = subst (λ (z : Row). Reason rows new admits room (or_one_of (mutable_ids y.held.cert) none_open) place z.held.cert) is (is_queued id has under (is_full full))
 
-      go : new.whole ≡ true → (q : ℕ) (x : Row) → row_at rows q ≡ Some x → Reason rows old admits room none_open q x.held.cert → Reason rows new admits room (or_one_of y.held.cert.tx.inputs none_open) q x.held.cert
+      go : new.whole ≡ true → (q : ℕ) (x : Row) → row_at rows q ≡ Some x → Reason rows old admits room none_open q x.held.cert → Reason rows new admits room (or_one_of (mutable_ids y.held.cert) none_open) q x.held.cert
       go whole q x here (stands_behind tx has off under) = stands_behind tx has off (r.behind tx q under)
       go whole q x here (is_queued id has under turn) = is_queued id has (r.queues id.0 q under) (turn_of id q turn)
       go whole q x here (may_be_free awake) = by (r.awake q awake)
@@ -81,8 +80,8 @@ module _ (rows : List (Option Row)) (admits : Digest → Bool) (room : ObjectId 
           same : Some y ≡ Some x → y ≡ x
           same f = cc
 
-          by : (q ≡ place) ⊎ (is_awake new q ≡ true) → Reason rows new admits room (or_one_of y.held.cert.tx.inputs none_open) q x.held.cert
-          by (inl is) = subst (λ k. Reason rows new admits room (or_one_of y.held.cert.tx.inputs none_open) k x.held.cert) (sym is) (put x (same (sym there ∙ ap (row_at rows) (sym is) ∙ here)) (aside whole))
+          by : (q ≡ place) ⊎ (is_awake new q ≡ true) → Reason rows new admits room (or_one_of (mutable_ids y.held.cert) none_open) q x.held.cert
+          by (inl is) = subst (λ k. Reason rows new admits room (or_one_of (mutable_ids y.held.cert) none_open) k x.held.cert) (sym is) (put x (same (sym there ∙ ap (row_at rows) (sym is) ∙ here)) (aside whole))
           by (inr still) = may_be_free still
 
 pub aside_rests : (admits : Digest → Bool) (room : ObjectId → Bool) (place : ℕ) (c : Certificate) (mid new : Waits) → Rests mid new place → Aside mid admits room place c → Aside new admits room place c
@@ -134,7 +133,7 @@ module _ (before mid : Book) (place : ℕ) (r : Row) (t : TakesOut before mid pl
   same_admits tx = ap (λ (es : List (Digest × Admit)). is_admitted (map admitted_as es) tx) (ap (λ m. m.entries) t.admitted)
 
   abbrev due : ObjectId → Bool
-  due = or_one_of r.held.cert.tx.inputs none_open
+  due = or_one_of (mutable_ids r.held.cert) none_open
 
   -- its place rests, and whatever stood after it may be free
   pub taken_out : (old mid_w new : Waits) → Rests old mid_w place → Frees mid_w new r.held.digest → IsFiledIn before old → IsFiled mid.rows.items new (admits_also (admits_in mid) r.held.digest) (room_in mid) due
@@ -144,7 +143,7 @@ module _ (before mid : Book) (place : ℕ) (r : Row) (t : TakesOut before mid pl
       writes_now p id writes = by (others p)
         where
           by : (p ≡ place) ⊎ (row_at mid.rows.items p ≡ row_at before.rows.items p) → (due id ≡ true) ⊎ (writes_at mid.rows.items p id ≡ true)
-          by (inl is) = inl (written_is r.held.cert.tx.inputs id ∙ sym (ap (λ o. writes_row o id) (ap (row_at before.rows.items) is ∙ t.row)) ∙ writes)
+          by (inl is) = inl (written_is (mutable_ids r.held.cert) id ∙ sym (ap (λ o. writes_row o id) (ap (row_at before.rows.items) is ∙ t.row)) ∙ writes)
           by (inr same) = inr (ap (λ o. writes_row o id) same ∙ writes)
 
       awake_now : (p : ℕ) → is_awake old p ≡ true → (p ≡ place) ⊎ (is_awake new p ≡ true)
@@ -196,12 +195,12 @@ module _ (before mid : Book) (place : ℕ) (r : Row) (t : TakesOut before mid pl
           away is = absurd (no (sym gone ∙ ap (row_at mid.rows.items) (sym is) ∙ here))
 
 -- then the queues of what it writes are opened
-pub released : (before mid : Book) (place : ℕ) (r : Row) (h : Held) → h ≡ r.held → TakesOut before mid place r → (old w1 w2 new : Waits) (is : List Input) → is ≡ h.cert.tx.inputs → Rests old w1 place → Frees w1 w2 h.digest
-    → Opens mid.rows.items (room_in mid) w2 new is [] → IsFiledIn before old → IsFiled mid.rows.items new (admits_also (admits_in mid) h.digest) (room_in mid) none_open
-released before mid place r h same t old w1 w2 new is inputs rests frees opens filed =
+pub released : (before mid : Book) (place : ℕ) (r : Row) (h : Held) → h ≡ r.held → TakesOut before mid place r → (old w1 w2 new : Waits) (tx : Digest) (ids : List ObjectId) → tx ≡ h.digest → ids ≡ mutable_ids h.cert → Rests old w1 place → Frees w1 w2 tx
+    → Opens mid.rows.items (room_in mid) w2 new ids [] → IsFiledIn before old → IsFiled mid.rows.items new (admits_also (admits_in mid) h.digest) (room_in mid) none_open
+released before mid place r h same t old w1 w2 new tx ids digest written rests frees opens filed =
     subst (λ (x : Held). IsFiled mid.rows.items new (admits_also (admits_in mid) x.digest) (room_in mid) none_open) (sym same)
-    ((subst (λ (js : List Input). Opens mid.rows.items (room_in mid) w2 new js []) (inputs ∙ ap (λ (x : Held). x.cert.tx.inputs) same) opens).at (admits_also (admits_in mid) r.held.digest) none_open
-    (taken_out before mid place r t old w1 w2 rests (subst (λ (x : Held). Frees w1 w2 x.digest) same frees) filed))
+    ((subst (λ (js : List ObjectId). Opens mid.rows.items (room_in mid) w2 new js []) (written ∙ ap (λ (x : Held). mutable_ids x.cert) same) opens).at (admits_also (admits_in mid) r.held.digest) none_open
+    (taken_out before mid place r t old w1 w2 rests (subst (λ (d : Digest). Frees w1 w2 d) (digest ∙ ap (λ (x : Held). x.digest) same) frees) filed))
 
 -- ---- admitted transactions that are cut
 
@@ -209,9 +208,6 @@ pub opens_next : (rows : List (Option Row)) (room : ObjectId → Bool) (a b c : 
     → OpensSince rows room a c all (drop (i + 1) entries)
 opens_next rows room a b c entries all i within found done = go (slice_get entries i) refl found
   where
-    due_here : (e : Digest × Admit) (id : ObjectId) → wrote_one (e ∷ drop (suc i) entries) id ≡ true → or_one_of e.1.cert.tx.inputs (wrote_one (drop (suc i) entries)) id ≡ true
-    due_here e id w = ap (λ b. b || wrote_one (drop (suc i) entries) id) (sym (all_written e.1.cert.tx.inputs id)) ∙ w
-
     go : (o : Option (Digest × Admit)) → slice_get entries i ≡ o → OpensFound rows room b c o → OpensSince rows room a c all (drop (i + 1) entries)
     go None e f = absurd (some_at entries i within e)
     go (Some e) at f =
@@ -219,6 +215,6 @@ opens_next rows room a b c entries all i within found done = go (slice_get entri
         (record {
           at = λ admits filed.
               f.at admits (wrote_one (drop (suc i) entries))
-              (filed_due rows admits room (wrote_one (e ∷ drop (suc i) entries)) (or_one_of e.1.cert.tx.inputs (wrote_one (drop (suc i) entries))) b (λ id w. inl (due_here e id w))
+              (filed_due rows admits room (wrote_one (e ∷ drop (suc i) entries)) (or_one_of (mutable_ids e.1.cert) (wrote_one (drop (suc i) entries))) b (λ id w. inl w)
               (subst (λ (es : List (Digest × Admit)). IsFiled rows b admits room (wrote_one es)) (next_at entries i e at) (done.at admits filed)));
         })

@@ -11,7 +11,7 @@ use Rattle.chain_types.specs.declared.transactions.Transaction.{Transaction}
 use Rattle.chain_types.specs.Equal.{id_eq}
 use Rattle.chain_types.specs.Digests.{is_object}
 use Rattle.chain_messages.specs.declared.messages.Certificate.{Certificate}
-use Rattle.answer_types.specs.declared.answers.Assigned.{Assigned}
+use Rattle.protocol_spec.specs.declared.answers.Assigned.{Assigned}
 use Rattle.protocol_spec.proofs.Equality.{id_turned, id_same, id_self}
 use Rattle.protocol_spec.proofs.ListLemmas.{all_none}
 use Rattle.protocol_spec.proofs.Truth.{or_false, where_false}

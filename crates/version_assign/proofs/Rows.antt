@@ -1,11 +1,10 @@
 -- Rows, as one of them is taken out or one more comes.
 use Rattle.std.proofs.Common.{◌≡◌, ℕ, zero, suc, Bool, true, false, cond, not, ◌||◌, List, [], ◌∷◌, ◌++◌, Option, Some, None, is_some, length, refl, ap, sym, subst, ◌∙◌, ◌+◌, ◌<◌, ◌≤◌, arith, slice_set, drop, length-append}
-use borrow.Author.Count.{below_more}
 use Rattle.std.specs.Prelude.{filter}
 use Rattle.std.specs.List.{list_any}
 use Rattle.digest_core.specs.declared.Digest.{Digest}
 use Rattle.chain_types.specs.Equal.{digest_eq}
-use Rattle.answer_types.specs.declared.answers.Held.{Held}
+use Rattle.protocol_spec.specs.declared.answers.Held.{Held}
 use Rattle.protocol_spec.proofs.Equality.{digest_same, digest_self}
 use Rattle.protocol_spec.proofs.Truth.{or_false_left, or_false_right}
 use Rattle.protocol_spec.specs.Chain.Words.{Each, repeats}
@@ -204,13 +203,3 @@ pending_behind low rows skipped = go low rows skipped.none
       where
         taken : Some x ≡ None → ⊥
         taken f = cc
-
-pub one_skipped : (low : ℕ) (rows : List (Option Row)) → low < length rows → not (is_some (row_at rows low)) ≡ true → IsSkipped low rows → IsSkipped (low + 1) rows
-one_skipped low rows within out skipped = record {
-  none = below_more (λ q. row_at rows q ≡ None) low skipped.none (absent (row_at rows low) out);
-  within = omega arith;
-}
-  where
-    absent : (o : Option Row) → not (is_some o) ≡ true → o ≡ None
-    absent None e = refl
-    absent (Some r) e = absurd (cc)

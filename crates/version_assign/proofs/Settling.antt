@@ -2,7 +2,7 @@
 use Rattle.std.proofs.Common.{◌≡◌, ℕ, zero, suc, Bool, true, false, cond, not, List, [], ◌∷◌, Option, Some, None, length, refl, ap, sym, subst, ◌∙◌, ◌≤◌, ◌<◌, ◌+◌, arith, length-append}
 use Rattle.std.specs.Prelude.{find, filter}
 use Rattle.chain_types.specs.declared.objects.Object.{Object}
-use Rattle.answer_types.specs.declared.answers.Held.{Held}
+use Rattle.protocol_spec.specs.declared.answers.Held.{Held}
 use Rattle.protocol_spec.proofs.Equality.{digest_self}
 use Rattle.protocol_spec.specs.Member.Admission.{Admission, is_dropped, is_free, not_of, take_all, take_free, taken, taken_as, taken_next}
 use Rattle.version_assign.specs.Calls.{Admitting, settled, with_taken}
@@ -87,9 +87,6 @@ module _ (writers : Option ℕ) (opening : List Object) where
       ∙ sym (next_some (length a.pending) a h e)
       ∙ same_fuel (suc (length a.pending)) (length a.pending) a (omega arith) (omega arith)
 
-  pub settles_none : (a : Admission) → find (is_free writers a) a.pending ≡ None → take_all writers opening a ≡ a
-  settles_none a e = next_none (length a.pending) a e
-
   -- no more is admitted, or dropped, than waited
   pub few_admitted : (n : ℕ) (a : Admission) → length (take_free writers opening n a).admitted ≤ length a.admitted + length a.pending
   few_admitted zero a = omega arith
@@ -126,6 +123,3 @@ one_smaller s (Some h) e free = let l : length (taken s.opening s.admission h).p
 pub one_same : (s : Admitting) (o : Option Held) → o ≡ find (is_free s.writers s.admission) s.admission.pending → is_free_one s o ≡ true → settled (with_taken s o) ≡ settled s
 one_same s None e free = absurd (cc)
 one_same s (Some h) e free = ap (λ (a : Admission). let t : Admitting = record s { admission = a } in t) (settles_some s.writers s.opening s.admission h (sym e))
-
-pub none_left : (s : Admitting) → None ≡ find (is_free s.writers s.admission) s.admission.pending → s ≡ settled s
-none_left s e = ap (λ (a : Admission). let t : Admitting = record s { admission = a } in t) (sym (settles_none s.writers s.opening s.admission (sym e)))

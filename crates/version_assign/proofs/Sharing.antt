@@ -11,8 +11,8 @@ use Rattle.chain_types.specs.declared.transactions.Input.TheVariants as inputs
 use Rattle.chain_types.specs.Digests.{lamport_version}
 use Rattle.chain_types.specs.Equal.{id_eq}
 use Rattle.chain_messages.specs.declared.messages.Certificate.{Certificate}
-use Rattle.answer_types.specs.declared.answers.Assigned.{Assigned}
-use Rattle.answer_types.specs.declared.answers.Held.{Held}
+use Rattle.protocol_spec.specs.declared.answers.Assigned.{Assigned}
+use Rattle.protocol_spec.specs.declared.answers.Held.{Held}
 use Rattle.protocol_spec.proofs.Equality.{id_same, id_turned}
 use Rattle.protocol_spec.proofs.ListLemmas.{each_push}
 use Rattle.protocol_spec.proofs.Truth.{or_false}

@@ -67,9 +67,6 @@ shelf_kept old new name after more reads other p has = go (digest_eq name other)
     go true same = reads_same old new name other after p reads same ∙ more p (subst (λ (d : Digest). is_under old d p ≡ true) (sym (digest_same name other same)) has)
     go false apart = reads_other old new name other after p reads apart ∙ has
 
-pub shelf_has : (old new : Shelf) (name : Digest) (after : BTreeSet ℕ) (p : ℕ) → contains nat_cmp after p ≡ true → Reads old new name after → is_under new name p ≡ true
-shelf_has old new name after p has reads = reads_same old new name name after p reads (digest_self name) ∙ has
-
 pub nothing_in : (set : BTreeSet ℕ) → (0 < length set.keys → ⊥) → (q : ℕ) → contains nat_cmp set q ≡ false
 nothing_in set none q = go set.keys none
   where
@@ -105,10 +102,3 @@ popped old new name before after (Some k) was reads some removal least updates s
         by (inl is) = inr (digest_same name other same, is)
         by (inr in_) = inl (reads_same old new name other after q reads same ∙ in_)
     go other q has false apart = inl (reads_other old new name other after q reads apart ∙ has)
-
--- there was no place under the name
-pub popped_none : (old new : Shelf) (name : Digest) → lookup (digest_eq name) old ≡ None → new ≡ old → Pops old new name None
-popped_none old new name was same = record {
-  kept = λ other p has. ap (λ (s : Shelf). is_under s other p) same ∙ has;
-  none = λ q. ap (λ (s : Shelf). is_under s name q) same ∙ ap (λ o. is_in o q) was;
-}

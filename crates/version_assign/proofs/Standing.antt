@@ -7,7 +7,7 @@ use Rattle.chain_types.specs.declared.transactions.Input.{Input}
 use Rattle.chain_types.specs.declared.transactions.Input.TheVariants as inputs
 use Rattle.chain_types.specs.Digests.{is_object, lamport_version}
 use Rattle.chain_messages.specs.declared.messages.Certificate.{Certificate}
-use Rattle.answer_types.specs.declared.answers.Assigned.{Assigned}
+use Rattle.protocol_spec.specs.declared.answers.Assigned.{Assigned}
 use Rattle.protocol_spec.specs.Chain.Words.{Each, first_of, first_some, last_where, where_true}
 use Rattle.protocol_spec.specs.Chain.Keys.{objects_of}
 use Rattle.protocol_spec.specs.Member.Admission.{Admitted, Standing, assigned_to, assignment, assignments, beginning_by, begins, cert_of, current, joined_inputs, standing_after, standing_or, taken_version, version_at_admission, writes}

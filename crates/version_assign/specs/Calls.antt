@@ -4,7 +4,7 @@ use Rattle.digest_core.specs.declared.Digest.{Digest}
 use Rattle.chain_types.specs.declared.objects.Object.{Object}
 use Rattle.chain_types.specs.declared.objects.ObjectId.{ObjectId}
 use Rattle.chain_types.specs.Equal.{digest_eq}
-use Rattle.answer_types.specs.declared.answers.Held.{Held}
+use Rattle.protocol_spec.specs.declared.answers.Held.{Held}
 use Rattle.protocol_spec.specs.Chain.Keys.{is_shared}
 use Rattle.protocol_spec.specs.Member.Admission.{Admitted, Admission, digest_of_admitted, entered, nothing_admitted, passed_mark, since_mark, take_all, taken}
 
@@ -19,6 +19,10 @@ is_shared_one o = is_shared o.owner
 
 abbrev pub id_of : Object → ObjectId
 id_of o = o.id
+
+-- the origins that an admitted certificate names
+abbrev pub origins_of : Admitted → List (Option Digest)
+origins_of a = a.cert.origins
 
 -- the version at which an admitted transaction writes
 abbrev pub version_of : Admission → Digest → Option ℕ

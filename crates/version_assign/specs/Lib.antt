@@ -1,5 +1,6 @@
 pub mod Lines
 pub mod Calls
+pub mod Excerpts
 pub mod Books
 pub mod Steps
 pub mod Sharing

@@ -12,7 +12,7 @@ use Rattle.chain_types.specs.declared.transactions.Input.{Input}
 use Rattle.chain_types.specs.declared.transactions.Input.TheVariants as inputs
 use Rattle.chain_types.specs.Equal.{id_eq}
 use Rattle.chain_types.specs.Digests.{is_object}
-use Rattle.answer_types.specs.declared.answers.Assigned.{Assigned}
+use Rattle.protocol_spec.specs.declared.answers.Assigned.{Assigned}
 use Rattle.protocol_spec.specs.Member.Admission.{Standing, assigned_to, begins}
 use Rattle.version_assign.specs.declared.lines.Line.{Line}
 

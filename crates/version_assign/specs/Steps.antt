@@ -1,5 +1,5 @@
 -- The steps of the tables.
-use Rattle.std.specs.Prelude.{◌≡◌, ℕ, ◌≤◌, ◌<◌, ◌^◌, ◌+◌, ◌++◌, slice_set, drop, fold, if◌then◌else◌, length, Bool, true, false, List, [], ◌∷◌, map, Option, Some, None, not}
+use Rattle.std.specs.Prelude.{◌≡◌, ℕ, ◌≤◌, ◌<◌, ◌^◌, ◌+◌, ◌++◌, slice_set, drop, fold, if◌then◌else◌, length, Bool, true, false, List, [], ◌∷◌, map, Option, Some, None}
 use Rattle.std.specs.List.{list_any}
 use Rattle.std.specs.Vec.{vec_capacity, vec_len}
 use Rattle.indexmap.specs.IndexMap.{insert_entry, spare}
@@ -7,28 +7,17 @@ use Rattle.indexmap.specs.IndexSet.{spare as set_spare}
 use Rattle.digest_core.specs.declared.Digest.{Digest}
 use Rattle.chain_types.specs.declared.objects.Object.{Object}
 use Rattle.chain_types.specs.declared.objects.ObjectId.{ObjectId}
-use Rattle.chain_types.specs.declared.transactions.Input.{Input}
-use Rattle.chain_types.specs.declared.transactions.Input.TheVariants as inputs
 use Rattle.chain_types.specs.Equal.{digest_eq, id_eq}
 use Rattle.chain_messages.specs.declared.messages.Certificate.{Certificate}
-use Rattle.answer_types.specs.declared.answers.Assigned.{Assigned}
-use Rattle.answer_types.specs.declared.answers.Held.{Held}
-use Rattle.protocol_spec.specs.Chain.Words.{where_true}
-use Rattle.protocol_spec.specs.Member.Admission.{Admission, has_room, is_free}
+use Rattle.protocol_spec.specs.declared.answers.Assigned.{Assigned}
+use Rattle.protocol_spec.specs.declared.answers.Held.{Held}
+use Rattle.protocol_spec.specs.Member.Admission.{is_free}
 use Rattle.version_assign.specs.declared.book.Admit.{Admit}
 use Rattle.version_assign.specs.declared.book.Book.{Book}
 use Rattle.version_assign.specs.declared.book.Row.{Row}
 use Rattle.version_assign.specs.Books.{HasRoom, IsSkipped, lacks_one, row_at, version_within}
 use Rattle.version_assign.specs.Calls.{Admitting, is_shared_one}
 use Rattle.version_assign.specs.Lines.{LineMap, are_lined, begun_behind, clear_all, filled, greatest_of, has_line, line_at, move_all}
-
--- the object that the input writes, if it has its writers
-abbrev pub full_one : Option ℕ → Admission → Input → Option ObjectId
-full_one writers a (inputs.Pure bytes) = None
-full_one writers a (inputs.Owned r) = None
-full_one writers a (inputs.Immutable r) = None
-full_one writers a (inputs.Shared id initial true) = where_true (not (has_room writers a id)) id
-full_one writers a (inputs.Shared id initial false) = None
 
 abbrev pub is_free_one : Admitting → Option Held → Bool
 is_free_one a None = false

@@ -6,11 +6,9 @@ use Rattle.std.specs.Ordering.{nat_cmp}
 use Rattle.std.specs.BTreeSet.{BTreeSet, contains}
 use Rattle.digest_core.specs.declared.Digest.{Digest}
 use Rattle.chain_types.specs.declared.objects.ObjectId.{ObjectId}
-use Rattle.chain_types.specs.declared.transactions.Input.{Input}
-use Rattle.chain_types.specs.Equal.{digest_eq, id_eq}
+use Rattle.chain_types.specs.Equal.{digest_eq}
 use Rattle.chain_messages.specs.declared.messages.Certificate.{Certificate}
 use Rattle.protocol_spec.specs.Chain.Words.{Has}
-use Rattle.protocol_spec.specs.Chain.Keys.{mutable_id}
 use Rattle.protocol_spec.specs.Chain.Tests.{has_id}
 use Rattle.protocol_spec.specs.Member.Admission.{has_room, is_admitted, mutable_ids, writes}
 use Rattle.version_assign.specs.declared.book.Admit.{Admit}
@@ -71,16 +69,9 @@ writes_row (Some r) id = has_id (mutable_ids r.held.cert) id
 abbrev pub writes_at : List (Option Row) → ℕ → ObjectId → Bool
 writes_at rows place id = writes_row (row_at rows place) id
 
-abbrev pub is_id : Option ObjectId → ObjectId → Bool
-is_id None id = false
-is_id (Some x) id = id_eq id x
-
-abbrev pub writes_input : Input → ObjectId → Bool
-writes_input i id = is_id (mutable_id i) id
-
--- one of these ids, or open before
-abbrev pub or_one_of : List Input → (ObjectId → Bool) → ObjectId → Bool
-or_one_of is due id = list_any (λ (i : Input). writes_input i id) is || due id
+-- one of these objects, or open before
+abbrev pub or_one_of : List ObjectId → (ObjectId → Bool) → ObjectId → Bool
+or_one_of ids due id = has_id ids id || due id
 
 abbrev pub none_open : ObjectId → Bool
 none_open id = false
@@ -152,8 +143,8 @@ pub record Passes (rows : List (Option Row)) (old new : Waits) (id : ObjectId) :
   pub behind : KeepsShelf old.behind.entries new.behind.entries
   pub queues : (name : Digest) (q : ℕ) → is_under old.queues.entries name q ≡ true → (is_under new.queues.entries name q ≡ true) ⊎ ((id.0 ≡ name) × (writes_at rows q id ≡ false))
 
--- a certificate that was filed while the queues of these inputs' objects were to be opened is filed
-pub record Opens (rows : List (Option Row)) (room : ObjectId → Bool) (old new : Waits) (all rest : List Input) : Type 0 where
+-- a certificate that was filed while the queues of these objects were to be opened is filed
+pub record Opens (rows : List (Option Row)) (room : ObjectId → Bool) (old new : Waits) (all rest : List ObjectId) : Type 0 where
   pub at : (admits : Digest → Bool) (due : ObjectId → Bool) → IsFiled rows old admits room (or_one_of all due) → IsFiled rows new admits room (or_one_of rest due)
 
 -- likewise for those that these admitted transactions write
@@ -170,7 +161,7 @@ pub record AreAwake (from to : ℕ) (w : Waits) : Type 0 where
 -- the queues of what one of them writes are open
 abbrev pub OpensFound : List (Option Row) → (ObjectId → Bool) → Waits → Waits → Option (Digest × Admit) → Type 0
 OpensFound rows room old new None = new ≡ old
-OpensFound rows room old new (Some e) = Opens rows room old new e.1.cert.tx.inputs []
+OpensFound rows room old new (Some e) = Opens rows room old new (mutable_ids e.1.cert) []
 
 -- it stands under an origin, or in the queue of an object that has its writers
 pub data Aside (w : Waits) (admits : Digest → Bool) (room : ObjectId → Bool) (place : ℕ) (c : Certificate) : Type 0 where

@@ -5,9 +5,9 @@ ghost use Rattle.protocol_spec.specs.Chain.Words.{Each, repeats};
 ghost use Rattle.protocol_spec.specs.Chain.Keys.{objects_of};
 ghost use Rattle.protocol_spec.specs.Chain.Shape.{shape_fault};
 ghost use Rattle.chain_types.specs.Equal.{id_eq};
-ghost use Rattle.protocol_spec.specs.Member.Admission.{Admitted, assigned_of, cert_of, deferred_on, digest_of_admitted, is_known, nothing_admitted, pending_on};
+ghost use Rattle.protocol_spec.specs.Member.Admission.{Admitted, assigned_of, deferred_on, digest_of_admitted, is_known, nothing_admitted, pending_on};
 ghost use Rattle.version_assign.specs.Changes.{IsOwn, Renews};
-ghost use Rattle.version_assign.specs.Calls.{admitted_since, dropped_since, id_of, opened, uncut, version_of, with_cut, with_entry, with_mark};
+ghost use Rattle.version_assign.specs.Calls.{admitted_since, dropped_since, id_of, opened, origins_of, uncut, version_of, with_cut, with_entry, with_mark};
 
 use crate::book::Book;
 use crate::changes::Change;
@@ -15,14 +15,14 @@ use crate::register::Register;
 use crate::shared::shared_objects;
 use crate::taken::Taken;
 use crate::waits::Waits;
-use answer_types::{Assigned, Held};
 use chain_messages::Certificate;
 use chain_types::{Object, ObjectId};
 use digest_core::Digest;
 use indexmap::{IndexMap, IndexSet};
+use protocol_spec::Assigned;
 use std::alloc::Global;
 use std::marker::Model;
-use wire_bcs::{Duplicate, OutOfMemory, Seq};
+use wire_bcs::{OutOfMemory, Seq};
 
 /// The certificates of one epoch's sequence: those that were admitted, dropped, or wait. Contracts see the shared
 /// objects with which the epoch opened, the limit of writers, and these lists.
@@ -115,21 +115,7 @@ impl Admission {
         ensures dropped { IfOk result (λ taken. taken.dropped ≡ dropped_since self.old.admission self.new.admission) }
         ensures err { OnErr result (self.new ≡ self.old) }
     {
-        let cert = cert.copy()?;
-        self.enter(Held { digest: *tx, cert })
-    }
-
-    /// The same, of a certificate that is handed over: it is kept as it is, and not copied. It is gone after a refusal.
-    pub fn enter(&mut self, new: Held) -> Result<Taken, OutOfMemory>
-        requires shaped { shape_fault new.cert.tx ≡ None }
-        requires origins { length new.cert.origins ≡ length (objects_of new.cert.tx) }
-        requires new { is_known self.old.admission new.digest ≡ false }
-        ensures entered { OnOk result (self.new ≡ with_entry self.old new) }
-        ensures admitted { IfOk result (λ taken. taken.admitted ≡ admitted_since self.old.admission self.new.admission) }
-        ensures dropped { IfOk result (λ taken. taken.dropped ≡ dropped_since self.old.admission self.new.admission) }
-        ensures err { OnErr result (self.new ≡ self.old) }
-    {
-        self.register.push(self.alloc, new)
+        self.register.push(self.alloc, tx, cert)
     }
 
     /// Takes a Commit mark, after its cut: the writers are counted anew, and what waited for that is admitted or dropped,
@@ -205,11 +191,11 @@ impl Admission {
         self.register.book.admitted_at(place)
     }
 
-    /// The certificate with which the transaction at a place was admitted, from 0. Takes no memory.
-    pub fn cert_at(&self, place: usize) -> Option<&Certificate>
-        ensures { option_map (λ (c : _). c.now) result ≡ option_map cert_of (slice_get self.now.admission.admitted place) }
+    /// The origins of the certificate with which the transaction at a place was admitted, from 0. Takes no memory.
+    pub fn origins_at(&self, place: usize) -> Option<&[Option<Digest>]>
+        ensures { option_map (λ (o : _). o.now) result ≡ option_map origins_of (slice_get self.now.admission.admitted place) }
     {
-        self.register.book.cert_at(place)
+        self.register.book.origins_at(place)
     }
 
     /// Goes back to the state in which no entry of the epoch was seen. Takes no memory.

@@ -2,19 +2,19 @@
 
 ghost use Rattle.std.specs.Prelude.{◌≡◌, Some, None, option_map, position, slice_get};
 ghost use Rattle.chain_types.specs.Equal.{digest_eq};
-ghost use Rattle.protocol_spec.specs.Member.Admission.{assigned_of, cert_of, deferred_by, deferred_on, digest_of_admitted, pending_certificate, pending_on};
+ghost use Rattle.protocol_spec.specs.Member.Admission.{assigned_of, deferred_by, deferred_on, digest_of_admitted, pending_certificate, pending_on};
 ghost use Rattle.version_assign.specs.Books.{IsKept, admission_of, placed};
-ghost use Rattle.version_assign.specs.Calls.{version_of};
+ghost use Rattle.version_assign.specs.Calls.{origins_of, version_of};
 
 use crate::book::{Book, Row};
-use answer_types::{Assigned, Held};
-use chain_messages::Certificate;
+use crate::excerpt::Candidate;
 use chain_types::ObjectId;
 use digest_core::Digest;
+use protocol_spec::Assigned;
 use wire_bcs::Seq;
 
 /// The certificate that waits at a place.
-fn held_at(rows: &[Option<Row>], place: Option<usize>) -> Option<&Held>
+fn held_at(rows: &[Option<Row>], place: Option<usize>) -> Option<&Candidate>
     ensures { option_map (λ (h : _). h.now) result ≡ placed rows.now place }
 {
     match place {
@@ -36,7 +36,7 @@ impl Book {
     }
 
     /// The certificate of a transaction that waits.
-    fn waiting_held(&self, tx: &Digest) -> Option<&Held>
+    fn waiting_held(&self, tx: &Digest) -> Option<&Candidate>
         requires { IsKept self.now }
         ensures { option_map (λ (h : _). h.now) result ≡ pending_certificate (admission_of self.now) tx.now }
     {
@@ -51,7 +51,7 @@ impl Book {
         ensures { result ≡ pending_on (admission_of self.now) tx.now }
     {
         match self.waiting_held(tx) {
-            Some(held) => self.missing(held.cert.origins.as_slice()),
+            Some(held) => self.missing(held.origins()),
             None => None,
         }
     }
@@ -69,13 +69,13 @@ impl Book {
     }
 
     /// The first object that is full, if all origins are admitted.
-    fn full_behind(&self, held: &Held) -> Option<ObjectId>
+    fn full_behind(&self, held: &Candidate) -> Option<ObjectId>
         requires { IsKept self.now }
         ensures { result ≡ deferred_by self.now.writers (admission_of self.now) (Some held.now) }
     {
-        match self.missing(held.cert.origins.as_slice()) {
+        match self.missing(held.origins()) {
             Some(_) => None,
-            None => self.full(held.cert.tx.inputs.as_slice()),
+            None => self.full(held.writes()),
         }
     }
 
@@ -109,12 +109,12 @@ impl Book {
         }
     }
 
-    /// The certificate with which the transaction at a place was admitted.
-    pub(crate) fn cert_at(&self, place: usize) -> Option<&Certificate>
-        ensures { option_map (λ (c : _). c.now) result ≡ option_map cert_of (slice_get (admission_of self.now).admitted place) }
+    /// The origins of the certificate with which the transaction at a place was admitted.
+    pub(crate) fn origins_at(&self, place: usize) -> Option<&[Option<Digest>]>
+        ensures { option_map (λ (o : _). o.now) result ≡ option_map origins_of (slice_get (admission_of self.now).admitted place) }
     {
         match self.admitted.get_index(place) {
-            Some((_, admit)) => Some(&admit.cert),
+            Some((_, admit)) => Some(admit.cert.origins()),
             None => None,
         }
     }

@@ -6,11 +6,11 @@ ghost use Rattle.protocol_spec.specs.Member.Admission.{begins};
 ghost use Rattle.version_assign.specs.Books.{IsOpening, begun_of, object_in};
 ghost use Rattle.version_assign.specs.Lines.{begun, begun_after, begun_behind};
 
-use answer_types::Assigned;
 use chain_messages::Certificate;
 use chain_types::{Input, Object, ObjectId, Producer};
 use digest_core::Digest;
 use indexmap::IndexMap;
+use protocol_spec::Assigned;
 use std::alloc::Global;
 use wire_bcs::OutOfMemory;
 

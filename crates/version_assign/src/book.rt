@@ -5,34 +5,33 @@ ghost use Rattle.std.specs.List.{list_all, list_any};
 ghost use Rattle.std.specs.Vec.{vec_capacity, vec_len};
 ghost use Rattle.chain_types.specs.Equal.{digest_eq};
 ghost use Rattle.protocol_spec.specs.Chain.Words.{first_of};
-ghost use Rattle.protocol_spec.specs.Chain.Keys.{mutable_id};
 ghost use Rattle.protocol_spec.specs.Member.Admission.{full_id, has_room, is_admitted, is_free, missing_origin};
 ghost use Rattle.version_assign.specs.Books.{AreLines, IsKept, IsSkipped, admission_of, lacks_one, opening_of, placed, row_at, shown, version_within};
 ghost use Rattle.version_assign.specs.Calls.{settled, with_taken};
 ghost use Rattle.indexmap.specs.IndexMap.{spare};
-ghost use Rattle.version_assign.specs.Lines.{are_lined, filled, greater_assigned, greater_named, greatest_of, named_version};
-ghost use Rattle.version_assign.specs.Steps.{Admits, Drops, Gives, Skips, TakesOut, full_one, is_free_one, judged};
+ghost use Rattle.version_assign.specs.Lines.{are_lined, filled, greater_assigned, greatest_of};
+ghost use Rattle.version_assign.specs.Steps.{Admits, Drops, Gives, Skips, TakesOut, is_free_one, judged};
 
+use crate::excerpt::{Candidate, Excerpt};
 use crate::lines::{Line, fill, line_at, move_lines};
-use answer_types::{Assigned, Held};
-use chain_messages::Certificate;
-use chain_types::{Input, Object, ObjectId, Producer};
+use chain_types::{Object, ObjectId, Producer};
 use digest_core::Digest;
 use indexmap::{IndexMap, IndexSet};
+use protocol_spec::Assigned;
 use tables::insert_in_room;
 use wire_bcs::Seq;
 
 /// A certificate that waits, and what its shared inputs would be assigned if nobody had named them before.
-#[derive(Debug, Drop)]
+#[derive(Drop)]
 pub(crate) struct Row {
-    pub(crate) held: Held,
+    pub(crate) held: Candidate,
     pub(crate) assigned: Vec<Assigned>,
 }
 
 /// An admitted certificate: the version at which it writes, and the versions of its shared inputs.
-#[derive(Debug, Drop)]
+#[derive(Drop)]
 pub(crate) struct Admit {
-    pub(crate) cert: Certificate,
+    pub(crate) cert: Excerpt,
     pub(crate) version: u64,
     pub(crate) assigned: Seq<Assigned>,
 }
@@ -123,31 +122,6 @@ fn lacks_any(opening: &IndexMap<ObjectId, Object>, assigned: &[Assigned]) -> boo
     false
 }
 
-/// The version that an owned or immutable input names.
-fn named_version(input: &Input) -> u64
-    ensures { result ≡ named_version input.now }
-{
-    match input {
-        Input::Owned(reference) => reference.version,
-        Input::Immutable(reference) => reference.version,
-        Input::Pure(_) => 0,
-        Input::Shared { .. } => 0,
-    }
-}
-
-/// The greatest of this version and those that the inputs name.
-fn greatest_named(greatest: u64, inputs: &[Input]) -> u64
-    ensures { result ≡ fold greater_named greatest inputs.now }
-{
-    let mut greatest = greatest;
-    let mut rest = inputs;
-    while let [input, after @ ..] = rest {
-        greatest = greatest.max(named_version(input));
-        rest = after;
-    }
-    greatest
-}
-
 /// The greatest of this version and those assigned.
 fn greatest_assigned(greatest: u64, assigned: &[Assigned]) -> u64
     ensures { result ≡ fold greater_assigned greatest assigned.now }
@@ -208,29 +182,15 @@ impl Book {
         }
     }
 
-    /// The object that the input writes, if it has as many writers as the limit.
-    fn full_one(&self, input: &Input) -> Option<ObjectId>
+    /// The first of these objects that has as many writers as the limit.
+    pub(crate) fn full(&self, ids: &[ObjectId]) -> Option<ObjectId>
         requires { AreLines self.now.writers (opening_of self.now) (admission_of self.now) self.now.lines.entries }
-        ensures { result ≡ full_one self.now.writers (admission_of self.now) input.now }
+        ensures { result ≡ first_of (full_id self.now.writers (admission_of self.now)) ids.now }
     {
-        if let Input::Shared { id, mutable, .. } = input {
-            if *mutable && !self.has_room(id) {
+        let mut rest = ids;
+        while let [id, after @ ..] = rest {
+            if !self.has_room(id) {
                 return Some(*id);
-            }
-        }
-        None
-    }
-
-    /// The first object that these inputs write and that has as many writers as the limit.
-    pub(crate) fn full(&self, inputs: &[Input]) -> Option<ObjectId>
-        requires { AreLines self.now.writers (opening_of self.now) (admission_of self.now) self.now.lines.entries }
-        ensures { result ≡ first_of (full_one self.now.writers (admission_of self.now)) inputs.now }
-    {
-        let mut rest = inputs;
-        while let [input, after @ ..] = rest {
-            let full = self.full_one(input);
-            if full.is_some() {
-                return full;
             }
             rest = after;
         }
@@ -238,12 +198,11 @@ impl Book {
     }
 
     /// Whether the certificate is free.
-    fn is_free(&self, held: &Held) -> bool
+    fn is_free(&self, held: &Candidate) -> bool
         requires { IsKept self.now }
         ensures { result ≡ is_free self.now.writers (admission_of self.now) held.now }
     {
-        self.missing(held.cert.origins.as_slice()).is_none()
-            && self.full(held.cert.tx.inputs.as_slice()).is_none()
+        self.missing(held.origins()).is_none() && self.full(held.writes()).is_none()
     }
 
     /// Whether a certificate waits at a place and is free.
@@ -300,8 +259,7 @@ impl Book {
     {
         let lacks = lacks_any(&self.opening, row.assigned.as_slice());
         fill(&self.lines, row.assigned.as_mut_slice());
-        let tx = &row.held.cert.tx;
-        let named = greatest_named(tx.gas.version, tx.inputs.as_slice());
+        let named = row.held.named();
         version_within(lacks, greatest_assigned(named, row.assigned.as_slice()))
     }
 
@@ -311,10 +269,10 @@ impl Book {
         requires lined { are_lined self.old.lines.entries row.assigned.items ≡ true }
         ensures { Admits self.old self.new row.held row.assigned.items version }
     {
-        let tx = row.held.digest;
+        let tx = *row.held.digest();
         move_lines(&mut self.lines, row.assigned.as_slice(), version, tx);
         let admit = Admit {
-            cert: row.held.cert,
+            cert: row.held.into_cert(),
             version,
             assigned: Seq::from_vec(row.assigned),
         };
@@ -326,7 +284,7 @@ impl Book {
         requires { vec_len self.old.dropped < vec_capacity self.old.dropped }
         ensures { Drops self.old self.new row.now.held }
     {
-        push_in_room(&mut self.dropped, row.held.digest);
+        push_in_room(&mut self.dropped, *row.held.digest());
     }
 
     /// Admits or drops a certificate that was taken out.

@@ -16,12 +16,14 @@ ghost use Rattle.version_assign.specs.Steps.{AddsRow, HasRowRoom, Marks, MakesRo
 
 use crate::begun::all_begun;
 use crate::book::{Admit, Book, Row, push_in_room};
+use crate::excerpt::Candidate;
 use crate::lines::{Line, clear_lines, make_lines};
 use crate::taken::Taken;
-use answer_types::{Assigned, Held};
+use chain_messages::Certificate;
 use chain_types::ObjectId;
 use digest_core::Digest;
 use indexmap::{IndexMap, IndexSet};
+use protocol_spec::Assigned;
 use std::alloc::Global;
 use wire_bcs::{OutOfMemory, Seq};
 
@@ -111,11 +113,17 @@ fn list_dropped(list: Vec<Digest>, dropped: &[Digest], from: usize) -> Vec<Diges
 
 impl Book {
     /// The row of a certificate.
-    pub(crate) fn row_of(&self, alloc: Global, held: Held) -> Result<Row, OutOfMemory>
+    pub(crate) fn row_of(
+        &self,
+        alloc: Global,
+        tx: &Digest,
+        cert: &Certificate,
+    ) -> Result<Row, OutOfMemory>
         requires { IsKept self.now }
-        ensures { IfOk result (λ row. IsRowOf (opening_of self.now) held row) }
+        ensures { IfOk result (λ row. IsRowOf (opening_of self.now) (record { digest = tx.now; cert = cert.now }) row) }
     {
-        let assigned = all_begun(alloc, &self.opening, &held.cert)?;
+        let assigned = all_begun(alloc, &self.opening, cert)?;
+        let held = Candidate::of(alloc, tx, cert)?;
         Ok(Row { held, assigned })
     }
 
@@ -140,7 +148,7 @@ impl Book {
         requires new { list_any (λ d. digest_eq row.held.digest d) self.old.known.keys ≡ false }
         ensures { AddsRow self.old self.new row }
     {
-        note_digest(&mut self.known, row.held.digest);
+        note_digest(&mut self.known, *row.held.digest());
         push_row(&mut self.rows, row);
         self.waiting += 1;
     }

@@ -13,6 +13,7 @@ mod begun;
 mod book;
 mod changes;
 mod entries;
+mod excerpt;
 mod laws;
 mod lines;
 mod register;

@@ -7,10 +7,10 @@ ghost use Rattle.chain_types.specs.declared.objects.ObjectId.{ObjectId as Id};
 ghost use Rattle.chain_types.specs.Equal.{id_eq};
 ghost use Rattle.version_assign.specs.Lines.{are_lined, clear_all, clear_one, cleared, filled, has_line, line_at, move_all, move_one, moved, no_line, one_more, standing_as};
 
-use answer_types::Assigned;
 use chain_types::{ObjectId, Producer};
 use digest_core::Digest;
 use indexmap::IndexMap;
+use protocol_spec::Assigned;
 use wire_bcs::OutOfMemory;
 
 /// The current version of a shared object and who wrote it, once an admitted transaction named the object; and how

@@ -15,7 +15,7 @@ ghost use Rattle.version_assign.specs.Steps.{HasRowRoom, is_free_one};
 use crate::book::{Book, Row};
 use crate::taken::Taken;
 use crate::waits::Waits;
-use answer_types::Held;
+use chain_messages::Certificate;
 use digest_core::Digest;
 use std::alloc::Global;
 use wire_bcs::OutOfMemory;
@@ -117,18 +117,23 @@ impl Register {
     }
 
     /// A certificate's entry. A refusal changes nothing.
-    pub(crate) fn push(&mut self, alloc: Global, new: Held) -> Result<Taken, OutOfMemory>
+    pub(crate) fn push(
+        &mut self,
+        alloc: Global,
+        tx: &Digest,
+        cert: &Certificate,
+    ) -> Result<Taken, OutOfMemory>
         requires kept { IsWhole self.old }
-        requires shaped { shape_fault new.cert.tx ≡ None }
-        requires origins { length new.cert.origins ≡ length (objects_of new.cert.tx) }
-        requires new { is_known (admission_of self.old.book) new.digest ≡ false }
+        requires shaped { shape_fault cert.now.tx ≡ None }
+        requires origins { length cert.now.origins ≡ length (objects_of cert.now.tx) }
+        requires new { is_known (admission_of self.old.book) tx.now ≡ false }
         ensures kept { IsWhole self.new }
-        ensures entered { OnOk result (shown self.new.book ≡ with_entry (shown self.old.book) new) }
+        ensures entered { OnOk result (shown self.new.book ≡ with_entry (shown self.old.book) (record { digest = tx.now; cert = cert.now })) }
         ensures admitted { IfOk result (λ taken. taken.admitted ≡ admitted_since (admission_of self.old.book) (admission_of self.new.book)) }
         ensures dropped { IfOk result (λ taken. taken.dropped ≡ dropped_since (admission_of self.old.book) (admission_of self.new.book)) }
         ensures err { OnErr result (shown self.new.book ≡ shown self.old.book) }
     {
-        let row = self.book.row_of(alloc, new)?;
+        let row = self.book.row_of(alloc, tx, cert)?;
         self.book.make_room(row.assigned.as_slice())?;
         let admitted = Vec::with_capacity(alloc, self.book.waiting + 1)?;
         let dropped = Vec::with_capacity(alloc, self.book.waiting + 1)?;

@@ -1,23 +1,20 @@
 //! Which of the certificates that wait may be free, so that the others are not looked at.
 
 ghost use Rattle.std.specs.Prelude.{◌≡◌, ◌≤◌, ℕ, Bool, IfSome, [], ◌∷◌, Option, Some, None, true, false, drop, find, slice_get};
-ghost use Rattle.std.specs.List.{list_any};
 ghost use Rattle.std.specs.Ordering.{nat_cmp};
 ghost use Rattle.std.specs.BTreeSet.{contains};
 ghost use Rattle.chain_types.specs.declared.objects.ObjectId.{ObjectId as Id};
-ghost use Rattle.chain_types.specs.declared.transactions.Input.{Input as In};
-ghost use Rattle.protocol_spec.specs.Chain.Keys.{mutable_id};
 ghost use Rattle.protocol_spec.specs.Chain.Tests.{has_id};
 ghost use Rattle.protocol_spec.specs.Member.Admission.{is_free, mutable_ids};
 ghost use Rattle.version_assign.specs.declared.book.Book.{Book as B};
 ghost use Rattle.version_assign.specs.Books.{AreLines, IsKept, IsSkipped, admission_of, opening_of, placed, row_at, shown};
 ghost use Rattle.version_assign.specs.Steps.{TakesOut, is_free_one};
-ghost use Rattle.version_assign.specs.Waiting.{Aside, Frees, Grows, IsFiled, IsFiledIn, Opens, OpensFound, OpensSince, Passes, Rests, TurnsOn, admits_also, admits_in, is_awake, is_under, none_open, or_one_of, room_in, wrote_one, writes_at, writes_input};
+ghost use Rattle.version_assign.specs.Waiting.{Aside, Frees, Grows, IsFiled, IsFiledIn, Opens, OpensFound, OpensSince, Passes, Rests, TurnsOn, admits_also, admits_in, is_awake, is_under, none_open, or_one_of, room_in, wrote_one, writes_at};
 
 use crate::book::{Book, Row, row_at};
+use crate::excerpt::Candidate;
 use crate::shelf::{add_place, pop_place, take_places};
-use answer_types::Held;
-use chain_types::{Input, ObjectId};
+use chain_types::ObjectId;
 use digest_core::Digest;
 use indexmap::IndexMap;
 use std::alloc::Global;
@@ -40,36 +37,12 @@ pub(crate) struct Waits {
     alloc: Global,
 }
 
-/// The object that the input writes, if it writes one.
-fn mutable_id(input: &Input) -> Option<ObjectId>
-    ensures { result ≡ mutable_id input.now }
+/// Whether the object is among these.
+fn is_one_of(ids: &[ObjectId], id: &ObjectId) -> bool
+    ensures { result ≡ has_id ids.now id.now }
 {
-    match input {
-        Input::Shared {
-            id,
-            mutable: true,
-            ..
-        } => Some(*id),
-        Input::Shared { .. } | Input::Owned(_) | Input::Immutable(_) | Input::Pure(_) => None,
-    }
-}
-
-/// Whether the input writes the object.
-fn writes_input(input: &Input, id: &ObjectId) -> bool
-    ensures { result ≡ writes_input input.now id.now }
-{
-    match mutable_id(input) {
-        Some(one) => *id == one,
-        None => false,
-    }
-}
-
-/// Whether one of these inputs writes the object.
-fn writes_one(inputs: &[Input], id: &ObjectId) -> bool
-    ensures { result ≡ list_any (λ (i : In). writes_input i id.now) inputs.now }
-{
-    for input in inputs {
-        if writes_input(input, id) {
+    for one in ids {
+        if *id == *one {
             return true;
         }
     }
@@ -80,7 +53,7 @@ fn writes_one(inputs: &[Input], id: &ObjectId) -> bool
 fn writes_row(row: &Row, id: &ObjectId) -> bool
     ensures { result ≡ has_id (mutable_ids row.now.held.cert) id.now }
 {
-    writes_one(row.held.cert.tx.inputs.as_slice(), id)
+    is_one_of(row.held.writes(), id)
 }
 
 /// Whether a certificate waits at the place, and writes the object.
@@ -185,27 +158,24 @@ impl Waits {
         }
     }
 
-    /// The first in the queue of the object that the input writes may be free, if the object has room.
-    fn open_one(&mut self, book: &Book, input: &Input)
+    /// The first in the queue of the object may be free, if the object has room.
+    fn open_one(&mut self, book: &Book, id: &ObjectId)
         requires { AreLines book.now.writers (opening_of book.now) (admission_of book.now) book.now.lines.entries }
-        ensures { (rest : _) → Opens book.now.rows.items (room_in book.now) self.old self.new (input.now ∷ rest) rest }
+        ensures { (rest : _) → Opens book.now.rows.items (room_in book.now) self.old self.new (id.now ∷ rest) rest }
     {
-        let Some(id) = mutable_id(input) else {
-            return;
-        };
-        if book.has_room(&id) {
-            self.wake_next(book.rows.as_slice(), &id);
+        if book.has_room(id) {
+            self.wake_next(book.rows.as_slice(), id);
         }
     }
 
-    /// Likewise for each of these inputs.
-    pub(crate) fn open_all(&mut self, book: &Book, inputs: &[Input])
+    /// Likewise for each of these objects.
+    pub(crate) fn open_all(&mut self, book: &Book, ids: &[ObjectId])
         requires { AreLines book.now.writers (opening_of book.now) (admission_of book.now) book.now.lines.entries }
-        ensures { Opens book.now.rows.items (room_in book.now) self.old self.new inputs.now [] }
+        ensures { Opens book.now.rows.items (room_in book.now) self.old self.new ids.now [] }
     {
-        let mut rest = inputs;
-        while let [input, after @ ..] = rest {
-            self.open_one(book, input);
+        let mut rest = ids;
+        while let [id, after @ ..] = rest {
+            self.open_one(book, id);
             rest = after;
         }
     }
@@ -219,15 +189,15 @@ impl Waits {
 
     /// Files a certificate that is not free under its first missing origin, or in the queue of the first object that
     /// is full.
-    fn file(&mut self, book: &Book, place: usize, held: &Held)
+    fn file(&mut self, book: &Book, place: usize, held: &Candidate)
         requires { IsKept book.now }
         ensures kept { Grows self.old self.new }
         ensures filed { self.new.whole ≡ true → is_free book.now.writers (admission_of book.now) held.now ≡ false → Aside self.new (admits_in book.now) (room_in book.now) place held.now.cert }
     {
-        match book.missing(held.cert.origins.as_slice()) {
+        match book.missing(held.origins()) {
             Some(tx) => self.put_behind(tx, place),
             None => {
-                if let Some(id) = book.full(held.cert.tx.inputs.as_slice()) {
+                if let Some(id) = book.full(held.writes()) {
                     self.put_in_queue(id, place);
                 }
             }
@@ -244,7 +214,7 @@ impl Waits {
             Some(row) => {
                 self.file(book, place, &row.held);
                 self.rest(place);
-                self.open_all(book, row.held.cert.tx.inputs.as_slice());
+                self.open_all(book, row.held.writes());
             }
             None => self.rest(place),
         }
@@ -277,13 +247,13 @@ impl Waits {
 
     /// The certificate at a place was taken out: whatever waits for its transaction may be free, and the next in the
     /// queues of what it writes.
-    pub(crate) fn release(&mut self, book: &Book, place: usize, held: &Held)
+    pub(crate) fn release(&mut self, book: &Book, place: usize, held: &Candidate)
         requires { AreLines book.now.writers (opening_of book.now) (admission_of book.now) book.now.lines.entries }
         ensures { (before : B) (row : _) → held.now ≡ row.held → TakesOut before book.now place row → IsFiledIn before self.old → IsFiled book.now.rows.items self.new (admits_also (admits_in book.now) held.now.digest) (room_in book.now) none_open }
     {
         self.rest(place);
-        self.wake_behind(&held.digest);
-        self.open_all(book, held.cert.tx.inputs.as_slice());
+        self.wake_behind(held.digest());
+        self.open_all(book, held.writes());
     }
 
     /// The first in the queue of each object that the admitted transaction at a place wrote may be free, if the
@@ -293,7 +263,7 @@ impl Waits {
         ensures { OpensFound book.now.rows.items (room_in book.now) self.old self.new (slice_get book.now.admitted.entries place) }
     {
         if let Some((_, admit)) = book.admitted.get_index(place) {
-            self.open_all(book, admit.cert.tx.inputs.as_slice());
+            self.open_all(book, admit.cert.writes());
         }
     }
 

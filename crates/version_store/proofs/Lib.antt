@@ -1,6 +1,7 @@
 mod Lists
 mod Held
 mod Newest
+mod Putting
 mod Executions
 mod Kept
 mod Places

@@ -70,3 +70,11 @@ fresh_is_new held objects = fresh_as held [] objects ∙ ap (λ b. are_new held 
 pub all_seen : (held : List Version) (seen : List ObjectKey) (rest objects : List Object) → length rest < 1 → all_fresh held seen rest ≡ all_fresh held [] objects → true ≡ are_new held objects
 all_seen held seen [] objects none same = same ∙ fresh_is_new held objects
 all_seen held seen (o ∷ os) objects none same = absurd (grind arith)
+
+-- a version that comes again is not new
+pub twice_old : (held : List Version) (o : Object) (os : List Object) → list_any (key_eq (object_key o)) (map object_key os) ≡ true → are_new held (o ∷ os) ≡ false
+twice_old held o os again = ap (λ b. not (list_any (holds_key held) (map object_key (o ∷ os))) && not (b || repeats key_eq (map object_key os))) again ∙ never (not (list_any (holds_key held) (map object_key (o ∷ os))))
+  where
+    never : (b : Bool) → (b && false) ≡ false
+    never true = refl
+    never false = refl

@@ -13,14 +13,14 @@ use Rattle.protocol_spec.specs.Chain.Words.{Each, repeats}
 use Rattle.protocol_spec.specs.Member.Admission.{opening_object}
 use Rattle.protocol_spec.specs.Member.Versions.{live, live_list, newer, newest, object_in, opened, versions, with_live, written_by}
 use Rattle.version_store.specs.declared.maps.Maps.{Maps}
-use Rattle.version_store.specs.Bases.{IsHeld, based, object_under, over, stored_over}
+use Rattle.version_store.specs.Bases.{IsHeld, based, object_under, stored_over}
 use Rattle.version_store.specs.Changed.{AreChanged, IsSingle}
 use Rattle.version_store.specs.Changes.{IsEmpty}
 use Rattle.version_store.specs.Kept.{stored}
 use Rattle.version_store.specs.Stores.{Stored, held_in}
 use Rattle.version_store.proofs.Ascending.{apart, found_as, found_under, owned}
 use Rattle.version_store.proofs.Based.{deleted_is, merge_none, newest_is}
-use Rattle.version_store.proofs.Kept.{kept_empty, stored_empty}
+use Rattle.version_store.proofs.Kept.{kept_empty}
 use Rattle.version_store.proofs.Merging.{merge, newest_both, newest_none, version_id}
 use Rattle.version_store.proofs.Rows.{IsOwn, newest_under}
 use Rattle.version_store.proofs.Turned.{any_parts, live_by_ids, live_has, live_in, live_none, no_row}
@@ -126,6 +126,3 @@ untouched {turned} {entries} {opened_in} {maps} first ids held view is all =
 
 pub held_nothing : (entries : List (ObjectId × Object)) (maps : Maps) → entries ≡ [] → IsEmpty maps → IsHeld false entries 0 maps
 held_nothing entries maps none empty = subst (λ (es : List (ObjectId × Object)). IsHeld false es 0 maps) (sym none) (record { kept = kept_empty maps empty; newest = λ id. refl; at = λ key. refl })
-
-pub shows_nothing : (entries : List (ObjectId × Object)) (maps : Maps) → entries ≡ [] → IsEmpty maps → stored_over false entries 0 maps ≡ record { opening = []; executed = [] }
-shows_nothing entries maps none empty = ap (λ (es : List (ObjectId × Object)). stored_over false es 0 maps) none ∙ ap (over []) (stored_empty maps empty)

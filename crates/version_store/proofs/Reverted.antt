@@ -84,10 +84,6 @@ versions_stay kept opening executed =
 abbrev objects_of : List Execution → List Object
 objects_of executed = flat_map (λ (x : Execution). x.gave.objects) executed
 
-objects_opened : (objects : List Object) → map object_in (map opened objects) ≡ objects
-objects_opened [] = refl
-objects_opened (o ∷ os) = ap (λ xs. o ∷ xs) (objects_opened os)
-
 objects_written : (tx : Digest) (objects : List Object) (more : List Version) → map object_in (map (written tx) objects ++ more) ≡ objects ++ map object_in more
 objects_written tx [] more = refl
 objects_written tx (o ∷ os) more = ap (λ xs. o ∷ xs) (objects_written tx os more)

@@ -1,6 +1,6 @@
 //! Whether objects would be new versions.
 
-ghost use Rattle.std.specs.Prelude.{◌≡◌, ◌++◌, ◌∷◌, [], IfOk, OnOk, false};
+ghost use Rattle.std.specs.Prelude.{◌≡◌, ◌++◌, ◌∷◌, [], IfOk, OnOk, false, map};
 ghost use Rattle.std.specs.List.{list_any};
 ghost use Rattle.chain_types.specs.Equal.{key_eq};
 ghost use Rattle.protocol_spec.specs.Chain.Tests.{has_key};
@@ -33,6 +33,20 @@ fn insert_new_key(seen: &mut IndexSet<ObjectKey>, key: ObjectKey) -> Result<(), 
     Ok(())
 }
 
+/// Whether one of the objects is this version. Takes no memory.
+fn is_among(key: &ObjectKey, objects: &[HashedObject]) -> bool
+    ensures { result ≡ list_any (key_eq key.now) (map object_key objects.now) }
+{
+    let mut rest = objects;
+    while let [object, after @ ..] = rest {
+        if *key == key_of(object.object()) {
+            return true;
+        }
+        rest = after;
+    }
+    false
+}
+
 impl Store {
     /// Whether the version is held. Takes no memory.
     fn holds(&self, key: &ObjectKey) -> bool
@@ -41,14 +55,29 @@ impl Store {
         self.get(key).is_some()
     }
 
-    /// Whether each of these objects is a version that is not held, and none stands there twice: what
-    /// [`Store::write`] asks of them.
+    /// Whether few objects are new: each is compared with those after it. Takes no memory; the time is quadratic.
+    #[tactic(auto, using(crate::proofs::News::twice_old))]
+    fn few_are_new(&self, objects: &[HashedObject]) -> bool
+        ensures { result ≡ are_new (held_in self.now) objects.now }
+    {
+        let mut rest = objects;
+        while let [object, after @ ..] = rest {
+            let key = key_of(object.object());
+            if self.holds(&key) || is_among(&key, after) {
+                return false;
+            }
+            rest = after;
+        }
+        true
+    }
+
+    /// Whether many objects are new.
     #[tactic(auto, using(crate::proofs::News::fresh_is_new))]
-    pub fn are_new(&self, objects: &Seq<HashedObject>) -> Result<bool, OutOfMemory>
+    fn many_are_new(&self, objects: &[HashedObject]) -> Result<bool, OutOfMemory>
         ensures { IfOk result (λ new. new ≡ are_new (held_in self.now) objects.now) }
     {
         let mut seen = IndexSet::new(self.alloc);
-        let mut rest = objects.as_slice();
+        let mut rest = objects;
         while let [object, after @ ..] = rest {
             let key = key_of(object.object());
             if self.holds(&key) || seen.contains(&key) {
@@ -58,5 +87,16 @@ impl Store {
             rest = after;
         }
         Ok(true)
+    }
+
+    /// Whether each of these objects is a version that is not held, and none stands there twice: what
+    /// [`Store::write`] asks of them.
+    pub fn are_new(&self, objects: &Seq<HashedObject>) -> Result<bool, OutOfMemory>
+        ensures { IfOk result (λ new. new ≡ are_new (held_in self.now) objects.now) }
+    {
+        if objects.len() <= 8 {
+            return Ok(self.few_are_new(objects.as_slice()));
+        }
+        self.many_are_new(objects.as_slice())
     }
 }

@@ -1,7 +1,8 @@
 //! The maps of a store, and one step of each.
 
-ghost use Rattle.std.specs.Prelude.{◌≡◌, ◌+◌, ◌<◌, ◌≤◌, OnOk, Some, length};
-ghost use Rattle.indexmap.specs.IndexMap.{spare};
+ghost use Rattle.std.specs.Prelude.{◌≡◌, ◌+◌, ◌<◌, ◌≤◌, OnOk, Some, is_some, length, true};
+ghost use Rattle.std.specs.Map.{lookup, set_value};
+ghost use Rattle.indexmap.specs.IndexMap.{insert_entry, spare};
 ghost use Rattle.indexmap.specs.IndexSet.{insert_all, insert_key, spare as set_spare};
 ghost use Rattle.chain_types.specs.Equal.{id_eq};
 ghost use Rattle.version_store.specs.Steps.{newer_of, with_all_newer, with_consumer, with_consumers, with_newer, with_versions};
@@ -13,6 +14,7 @@ use digest_core::Digest;
 use effects_core::HashedEffects;
 use indexmap::{IndexMap, IndexSet};
 use std::alloc::Global;
+use std::hash::Hash;
 use tables::insert_in_room;
 use wire_bcs::{OutOfMemory, Seq};
 
@@ -43,6 +45,31 @@ pub(crate) struct Maps {
     pub(crate) deleted: IndexSet<ObjectId>,
 }
 
+/// Puts a value under a key, and answers what stood there; there is room.
+fn put<K: Eq + Hash + Drop, V: Drop>(map: &mut IndexMap<K, V>, key: K, value: V) -> Option<V>
+    requires { 0 < spare map.old }
+    ensures old { result ≡ lookup (K.eq key) map.old.entries }
+    ensures entries { map.new.entries ≡ insert_entry K.eq map.old.entries key value }
+    ensures room { spare map.old ≤ spare map.new + 1 }
+{
+    match map.insert(key, value) {
+        Ok(old) => old,
+        Err(_) => unreachable!(),
+    }
+}
+
+/// Puts a value in the place of the one that stands under a key.
+fn put_back<K: Eq + Hash + Drop, V: Drop>(map: &mut IndexMap<K, V>, key: &K, value: V)
+    requires { is_some (lookup (K.eq key.now) map.old.entries) ≡ true }
+    ensures entries { map.new.entries ≡ set_value (K.eq key.now) map.old.entries value }
+    ensures room { spare map.new ≡ spare map.old }
+{
+    match map.get_mut(key) {
+        Some(there) => *there = value,
+        None => unreachable!(),
+    }
+}
+
 /// Puts each of the objects under its key; there is room.
 fn add_versions(
     versions: &mut IndexMap<ObjectKey, Kept>,
@@ -69,11 +96,14 @@ pub(crate) fn add_newer(newest: &mut IndexMap<ObjectId, HashedObject>, object: &
     ensures room { spare newest.old ≤ spare newest.new + 1 }
 {
     let id = object.object().id;
-    let newer = match newest.get(&id) {
-        Some(held) => *newer(held, object),
-        None => *object,
+    let Some(held) = put(newest, id, *object) else {
+        return;
     };
-    insert_in_room(newest, id, newer);
+    // What is written is mostly newer than what is held, so that one look-up does.
+    if held.object().version < object.object().version {
+        return;
+    }
+    put_back(newest, &id, held);
 }
 
 /// The newer of two versions of one object.
@@ -125,9 +155,11 @@ fn add_consumer(consumers: &mut IndexMap<ObjectKey, Digest>, key: ObjectKey, tx:
     ensures entries { consumers.new.entries ≡ with_consumer tx consumers.old.entries key }
     ensures room { spare consumers.old ≤ spare consumers.new + 1 }
 {
-    if !consumers.contains_key(&key) {
-        insert_in_room(consumers, key, tx);
-    }
+    // A key is mostly consumed once, so that one look-up does.
+    let Some(first) = put(consumers, key, tx) else {
+        return;
+    };
+    put_back(consumers, &key, first);
 }
 
 /// Notes the transaction that consumed each of the keys, unless one is noted; there is room.

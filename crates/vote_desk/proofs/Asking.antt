@@ -7,8 +7,8 @@ use mathlib.Core.Logic.{dite, inl, inr}
 use native.Mathlib.Decide.{ℕ_discrete}
 use Rattle.outside.specs.declared.keeper.Keeper.{Ghosts as Keeping}
 use Rattle.quorum_core.specs.declared.sealer.Checker.{Ghosts as Sealing}
-use Rattle.answer_types.specs.declared.answers.Voted.{Voted}
-use Rattle.answer_types.specs.declared.refusals.VoteRefusal.{VoteRefusal}
+use Rattle.protocol_spec.specs.declared.answers.Voted.{Voted}
+use Rattle.protocol_spec.specs.declared.refusals.VoteRefusal.{VoteRefusal}
 use Rattle.vote_desk.specs.declared.desk.Desk.{Desk}
 use Rattle.vote_desk.specs.declared.desk.DeskPass.{DeskPass}
 use Rattle.vote_desk.specs.declared.desk.DeskRefusal.{DeskRefusal}

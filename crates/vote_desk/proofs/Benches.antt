@@ -4,13 +4,13 @@ use Rattle.outside.specs.declared.keeper.Keeper.{Ghosts as Keeping}
 use Rattle.quorum_core.specs.declared.sealer.Checker.{Ghosts as Sealing}
 use Rattle.quorum_core.specs.declared.signer.Signer.{Signer}
 use Rattle.digest_core.specs.declared.Digest.{Digest}
-use Rattle.answer_types.specs.declared.answers.Voted.{Voted as Sent}
-use Rattle.answer_types.specs.declared.refusals.VoteRefusal.{VoteRefusal}
-use Rattle.answer_types.specs.declared.refusals.VoteRefusal.TheVariants as no_vote
+use Rattle.protocol_spec.specs.declared.answers.Voted.{Voted as Sent}
+use Rattle.protocol_spec.specs.declared.refusals.VoteRefusal.{VoteRefusal}
+use Rattle.protocol_spec.specs.declared.refusals.VoteRefusal.TheVariants as no_vote
 use Rattle.protocol_spec.specs.Chain.Certificates.{Rules}
 use Rattle.protocol_spec.specs.Member.Member.{fork_of}
 use Rattle.protocol_spec.specs.Member.Calls.{Call, called}
-use Rattle.scene_spec.specs.Seats.{Seated}
+use Rattle.world_spec.specs.Seats.{Seated}
 use Rattle.validator_core.specs.Calls.{Votes}
 use Rattle.validator_core.specs.Seats.{Behaves, Ended, answered, fell}
 use Rattle.vote_desk.specs.declared.bench.Bench.{Bench}
@@ -55,7 +55,7 @@ number_stays r call old new answered is = ap (λ (s : Seated). s.member) is ∙ 
     go : (up : Bool) → (cond up (record old { state = called r old.state call }) old).member ≡ old.member
     go true = refl
     go false = refl
-number_stays r call old new fell is = is.member
+number_stays r call old new fell is = ap (λ (s : Seated). s.member) is
 
 -- ---- the desk
 

@@ -1,5 +1,5 @@
 -- The steps as the desk's calls make them, over plain values.
-use Rattle.std.proofs.Common.{◌≡◌, ℕ, ◌+◌, ◌-◌, ◌<◌, ◌≤◌, eqb, eqb-true, List, [], ◌∷◌, ◌++◌, length, Some, sym, refl, ap, ◌∙◌, subst, arith}
+use Rattle.std.proofs.Common.{◌≡◌, ℕ, ◌+◌, ◌<◌, ◌≤◌, eqb, eqb-true, List, [], ◌∷◌, ◌++◌, length, Some, sym, refl, ap, ◌∙◌, subst, arith}
 use mathlib.Core.Option.{some, some-injective}
 use lib.ListN.{get_elem?}
 use Rattle.std.specs.Bool.{OnTrue}
@@ -13,7 +13,7 @@ use Rattle.vote_desk.specs.declared.kept.Opened.{Opened}
 use Rattle.vote_desk.specs.declared.view.View.{View}
 use Rattle.vote_desk.specs.Counts.{times, IsAscending, merged}
 use Rattle.vote_desk.specs.Histories.{IsFront, IsHistory, IsLegal}
-use Rattle.vote_desk.specs.Views.{whole, first_view, with_share, parted, joined}
+use Rattle.vote_desk.specs.Views.{whole, first_view, joined}
 use Rattle.vote_desk.specs.Rule.{Held}
 use Rattle.vote_desk.specs.Steps.{Takes, Looks}
 use Rattle.vote_desk.specs.Kept.{Stands}
@@ -112,37 +112,6 @@ module _ {C Q A E S : Type 0} (goes : S → E → S → Type 0) (state : C → S
         legal = subst (λ (v : V). IsLegal goes (opening state desk) v.seen) (sym then_is) (longer_is (IsLegal goes (opening state desk)) (view one).seen (view other).seen of.legal of'.legal);
         rises = subst (λ (v : V). IsAscending v.mine) (sym look.view) look.rises;
         below = subst (λ (v : V). (place : ℕ) → 0 < times place v.mine → place < length v.seen) (sym look.view) look.below;
-      }
-
-  -- a pass is cut in two
-  pub is_left : (desk : SerialDesk C Q A E S) (old new : Pass C Q A E S) → IsOf goes state desk old → 1 < (view old).share → new.seat.table_id ≡ old.seat.table_id → new.seat.me ≡ (with_share (view old) ((view old).share - 1), old.seat.me.1) → IsOf goes state desk new
-  is_left desk old new of more same_table is =
-      let M : Type 0 = Me (Kept C Q A E S) (View S E) in record {
-        wide = of.wide;
-        deep = of.deep;
-        table = same_table ∙ of.table;
-        clear = ap (λ (m : M). m.1) is ∙ of.clear;
-        calm = ap (λ (m : M). m.0.out) is ∙ of.calm;
-        part = (let e : (view new).share ≡ (view old).share - 1 = ap (λ (m : M). m.0.share) is in omega (arith, e, more));
-        same = ap (λ (m : M). m.0.opening) is ∙ of.same;
-        legal = subst (λ (m : M). IsLegal goes (opening state desk) m.0.seen) (sym is) of.legal;
-        rises = subst (λ (m : M). IsAscending m.0.mine) (sym is) of.rises;
-        below = subst (λ (m : M). (place : ℕ) → 0 < times place m.0.mine → place < length m.0.seen) (sym is) of.below;
-      }
-
-  pub is_parted : (desk : SerialDesk C Q A E S) (old new : Pass C Q A E S) → IsOf goes state desk old → new.seat.table_id ≡ old.seat.table_id → new.seat.me ≡ (parted (view old), []) → IsOf goes state desk new
-  is_parted desk old new of same_table is =
-      let M : Type 0 = Me (Kept C Q A E S) (View S E) in record {
-        wide = of.wide;
-        deep = of.deep;
-        table = same_table ∙ of.table;
-        clear = ap (λ (m : M). m.1) is;
-        calm = ap (λ (m : M). m.0.out) is;
-        part = (let e : (view new).share ≡ 1 = ap (λ (m : M). m.0.share) is in omega (arith, e));
-        same = ap (λ (m : M). m.0.opening) is ∙ of.same;
-        legal = subst (λ (m : M). IsLegal goes (opening state desk) m.0.seen) (sym is) of.legal;
-        rises = subst (λ (m : M). IsAscending m.0.mine) (sym is) tt;
-        below = subst (λ (m : M). (place : ℕ) → 0 < times place m.0.mine → place < length m.0.seen) (sym is) (λ place h. absurd (omega (arith, h)));
       }
 
   -- what the desk is closed with, of the pass with the whole share

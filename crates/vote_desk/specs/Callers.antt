@@ -2,9 +2,9 @@
 use Rattle.std.specs.Prelude.{◌≡◌, ℕ, ◌≤◌, Bool, true, false, List, [], Result, Ok, Err, length, map}
 use Rattle.outside.specs.declared.keeper.Keeper.{Ghosts as Keeping}
 use Rattle.quorum_core.specs.declared.sealer.Checker.{Ghosts as Sealing}
-use Rattle.answer_types.specs.declared.answers.Voted.{Voted}
-use Rattle.answer_types.specs.declared.refusals.VoteRefusal.{VoteRefusal}
-use Rattle.answer_types.specs.declared.refusals.VoteRefusal.TheVariants as no_vote
+use Rattle.protocol_spec.specs.declared.answers.Voted.{Voted}
+use Rattle.protocol_spec.specs.declared.refusals.VoteRefusal.{VoteRefusal}
+use Rattle.protocol_spec.specs.declared.refusals.VoteRefusal.TheVariants as no_vote
 use Rattle.protocol_spec.specs.Chain.Words.{Each}
 use Rattle.validator_core.specs.Calls.{vote_ended}
 use Rattle.validator_core.specs.Seats.{answered}

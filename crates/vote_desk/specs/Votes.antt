@@ -5,13 +5,13 @@ use Rattle.quorum_core.specs.declared.signer.Signer.{Signer}
 use Rattle.outside.specs.Causes.{Rose}
 use Rattle.outside.specs.Lists.{Journals}
 use Rattle.journal_core.specs.declared.records.Record.{Record}
-use Rattle.answer_types.specs.declared.answers.Voted.{Voted as Sent}
-use Rattle.answer_types.specs.declared.refusals.VoteRefusal.{VoteRefusal}
-use Rattle.answer_types.specs.declared.refusals.VoteRefusal.TheVariants as no_vote
+use Rattle.protocol_spec.specs.declared.answers.Voted.{Voted as Sent}
+use Rattle.protocol_spec.specs.declared.refusals.VoteRefusal.{VoteRefusal}
+use Rattle.protocol_spec.specs.declared.refusals.VoteRefusal.TheVariants as no_vote
 use Rattle.protocol_spec.specs.Chain.Certificates.{Rules}
 use Rattle.protocol_spec.specs.Member.Calls.{Voted, votes}
 use Rattle.protocol_spec.specs.Member.Member.{fork_of}
-use Rattle.scene_spec.specs.Seats.{Seated, due_at, rules_of_seat}
+use Rattle.world_spec.specs.Seats.{Seated, due_at, rules_of_seat}
 use Rattle.validator_core.specs.Calls.{IsSealedBy, vote_ended, vote_said}
 use Rattle.validator_core.specs.Seats.{Behaves, Journaled}
 use Rattle.vote_desk.specs.declared.entry.DeskEntry.{DeskEntry}

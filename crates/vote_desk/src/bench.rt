@@ -5,8 +5,8 @@ ghost use Rattle.std.specs.Prelude.{◌≡◌, ◌<◌};
 use crate::clerk::Clerk;
 use crate::entry::{Asked, DeskEntry};
 use crate::standing::Standing;
-use answer_types::{VoteRefusal, Voted};
 use outside::Keeper;
+use protocol_spec::{VoteRefusal, Voted};
 use quorum_core::Sealer;
 use validator_core::Validator;
 

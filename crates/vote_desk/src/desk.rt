@@ -5,8 +5,8 @@ ghost use Rattle.std.specs.Prelude.{◌≡◌, ℕ, ◌+◌, ◌-◌, ◌<◌, �
 use crate::bench::Bench;
 use crate::entry::{Asked, DeskEntry};
 use crate::serial::{Pass, SerialDesk};
-use answer_types::{VoteRefusal, Voted};
 use outside::Keeper;
+use protocol_spec::{VoteRefusal, Voted};
 use quorum_core::Sealer;
 use std::alloc::Global;
 use std::sync::Wait;

@@ -3,9 +3,9 @@
 ghost use Rattle.std.specs.Prelude.{◌≡◌, ◌≤◌, [], IfOk, MatchResult, length, vec_capacity};
 ghost use Rattle.validator_core.specs.Calls.{origins_in};
 
-use answer_types::{VoteRefusal, Voted};
 use chain_messages::{Sealed, Statement};
 use digest_core::Digest;
+use protocol_spec::{VoteRefusal, Voted};
 use std::alloc::Global;
 use wire_bcs::{OutOfMemory, Seq};
 

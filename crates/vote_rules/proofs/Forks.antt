@@ -13,7 +13,7 @@ use Rattle.chain_types.specs.Digests.{consumed_keys}
 use Rattle.protocol_spec.proofs.Equality.{key_same}
 use Rattle.protocol_spec.specs.Chain.Words.{first_of, first_some}
 use Rattle.protocol_spec.specs.Chain.Tests.{has_key}
-use Rattle.answer_types.specs.declared.answers.Held.{Held}
+use Rattle.protocol_spec.specs.declared.answers.Held.{Held}
 use Rattle.protocol_spec.specs.Member.Member.{Fork, consumes, fork_at, fork_in, fork_with}
 use Rattle.vote_rules.specs.Holders.{digest_of, fork_by, meets, sides, with_holder, with_holders}
 

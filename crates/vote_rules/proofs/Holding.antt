@@ -13,7 +13,7 @@ use Rattle.chain_types.specs.Equal.{digest_eq, key_eq}
 use Rattle.chain_types.specs.Digests.{consumed_keys}
 use Rattle.protocol_spec.proofs.Equality.{digest_turned, still_apart}
 use Rattle.protocol_spec.specs.Chain.Words.{first_of, first_some, repeats}
-use Rattle.answer_types.specs.declared.answers.Held.{Held}
+use Rattle.protocol_spec.specs.declared.answers.Held.{Held}
 use Rattle.protocol_spec.specs.Member.Checkpoints.{held_of}
 use Rattle.protocol_spec.specs.Member.Member.{consumes, fork_in}
 use Rattle.vote_rules.specs.declared.held_book.Fork.{Fork as Sides}

@@ -8,7 +8,7 @@ use Rattle.chain_types.specs.declared.objects.ObjectKey.{ObjectKey}
 use Rattle.chain_types.specs.Equal.{digest_eq, key_eq}
 use Rattle.protocol_spec.specs.Chain.Words.{repeats}
 use Rattle.chain_messages.specs.declared.messages.Certificate.{Certificate}
-use Rattle.answer_types.specs.declared.answers.Held.{Held}
+use Rattle.protocol_spec.specs.declared.answers.Held.{Held}
 use Rattle.protocol_spec.specs.Member.Member.{Fork, consumes, fork_in}
 use Rattle.vote_rules.specs.declared.held_book.Fork.{Fork as Sides}
 

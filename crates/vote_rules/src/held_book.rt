@@ -11,11 +11,11 @@ ghost use Rattle.protocol_spec.specs.Member.Checkpoints.{held_of};
 ghost use Rattle.protocol_spec.specs.Member.Member.{consumes, fork_in};
 ghost use Rattle.vote_rules.specs.Holders.{at_place, cert_of, digest_of, fork_by, meets, sides, with_holder, with_holders};
 
-use answer_types::Held;
 use chain_messages::Certificate;
 use chain_types::{ObjectKey, owned_keys};
 use digest_core::Digest;
 use indexmap::{IndexMap, IndexSet};
+use protocol_spec::Held;
 use std::alloc::Global;
 use std::marker::Model;
 use tables::insert_in_room;

@@ -1,30 +1,16 @@
 -- Sequences, one item after another.
-use Rattle.std.proofs.Common.{◌≡◌, ℕ, suc, ◌+◌, ◌-◌, ◌<◌, ◌≤◌, true, List, [], ◌∷◌, ◌++◌, length, get_or, take, drop, Ok, Err, refl, sym, ◌∙◌, ap, subst, arith, append_assoc}
+use Rattle.std.proofs.Common.{◌≡◌, ℕ, suc, ◌+◌, ◌-◌, ◌<◌, true, List, [], ◌∷◌, ◌++◌, length, get_or, take, drop, Ok, Err, refl, sym, ◌∙◌, ap, subst, arith, append_assoc}
 use Rattle.std.specs.Prelude.{flat_map}
-use Rattle.std.proofs.lemmas.List.{append-nil, take-append-drop, drop_more}
+use Rattle.std.proofs.lemmas.List.{take-append-drop, drop_more}
 use Rattle.std.proofs.lemmas.Grind.{flat_map-append}
-use Rattle.wire_bcs.specs.declared.fault.Unread.{Unread}
-use Rattle.wire_bcs.specs.declared.fault.Unread.TheVariants as unread
 use Rattle.wire_bcs.specs.Place.{Place, Read, ◌>>=◌}
-use Rattle.wire_bcs.specs.Uleb.{uleb, uleb_below}
-use Rattle.wire_bcs.specs.Items.{length_limit}
-use Rattle.wire_bcs.specs.Shapes.{items_read, seq_read, seq_spell}
+use Rattle.wire_bcs.specs.Uleb.{uleb}
+use Rattle.wire_bcs.specs.Shapes.{items_read, seq_spell}
 use Rattle.wire_bcs.specs.Wrote.{is_part, part_first, part_then}
-use Rattle.wire_bcs.specs.Gives.{Gives}
 
 -- what was read before, and what is still read
 abbrev pub with_front : {A : Type 0} → List A → Read (List A) → Read (List A)
 with_front front read = read >>= λ x. Ok (front ++ x.0, x.1)
-
-with_none : {A : Type 0} (read : Read (List A)) → with_front [] read ≡ read
-with_none (Ok x) = refl
-with_none (Err s) = refl
-
-pub begins : {A : Type 0} (one : Place → Read A) (p q : Place) (count : ℕ) → uleb_below length_limit 5 p ≡ Ok (count, q) → with_front [] (items_read one (count - 0) q) ≡ seq_read one p
-unfolding seq_read
-begins one p q count e =
-    let all : count - 0 ≡ count = omega arith in
-    rw (e, all) (with_none (items_read one count q))
 
 regroup : {A : Type 0} (front : List A) (x : A) (read : Read (List A)) → with_front front (read >>= λ y. Ok (x ∷ y.0, y.1)) ≡ with_front (front ++ x ∷ []) read
 regroup {A} front x (Ok y) =
@@ -38,22 +24,6 @@ goes_on one front count i p x q total lt e so_far =
     let k : count - i ≡ suc (count - (i + 1)) = omega arith in
     let step : with_front front (items_read one (count - i) p) ≡ with_front (front ++ x ∷ []) (items_read one (count - (i + 1)) q) = rw (k, e) (regroup front x (items_read one (count - (i + 1)) q)) in
     sym step ∙ so_far
-
-pub fails : {A : Type 0} (error : Unread) (one : Place → Read A) (front : List A) (count i : ℕ) (p q : Place) (total : Read (List A)) → i < count → Gives {A = A} q (Err error) (one p)
-    → with_front front (items_read one (count - i) p) ≡ total → Gives {A = List A} q (Err error) total
-fails unread.OutOfMemory one front count i p q total lt e so_far = tt
-fails (unread.Wire f) one front count i p q total lt e so_far =
-    let k : count - i ≡ suc (count - (i + 1)) = omega arith in
-    let step : with_front front (items_read one (count - i) p) ≡ Err (record { place = q; why = f.why }) = rw (k, e.0) refl in
-    (sym so_far ∙ step, e.1)
-
-pub is_done : {A : Type 0} (one : Place → Read A) (front : List A) (count i : ℕ) (p : Place) (total : Read (List A)) → count ≤ i
-    → with_front front (items_read one (count - i) p) ≡ total → total ≡ Ok (front, p)
-is_done {A} one front count i p total le so_far =
-    let k : count - i ≡ 0 = omega arith in
-    let found : List A → Read (List A) = λ xs. Ok (xs, p) in
-    let step : with_front front (items_read one (count - i) p) ≡ Ok (front, p) = rw k (ap found (append-nil front)) in
-    sym so_far ∙ step
 
 -- ---- writing
 

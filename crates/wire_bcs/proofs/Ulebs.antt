@@ -2,7 +2,7 @@
 use Rattle.std.proofs.Common.{◌≡◌, ℕ, suc, ◌+◌, ◌-◌, ◌*◌, ◌/◌, ◌%◌, ◌<◌, ◌≤◌, List, [], ◌∷◌, ◌++◌, length, take, set, sym, ◌∙◌, ap, arith, append_assoc, zero, lit≤}
 use Rattle.std.proofs.lemmas.List.{take_more_set, length-set}
 use Rattle.wire_bcs.specs.Uleb.{uleb_in}
-use Rattle.wire_bcs.specs.UlebLaws.{uleb_in-last, uleb_in-more, room, room-some}
+use Rattle.wire_bcs.specs.UlebLaws.{uleb_in-more, room, room-some}
 
 -- what is written, and what is still to be written, of a text
 abbrev pub Begun : ℕ → List ℕ → ℕ → List ℕ → Type 0
@@ -19,12 +19,6 @@ goes_on i bytes rest text lt high begun =
     ∙ (ap (λ (t : List ℕ). take i bytes ++ t) (sym one) ∙ begun.0)) in
     let bound : rest < 128 * room (4 - (i + 1)) = (let e : room (4 - i) ≡ 128 * room (4 - (i + 1)) = ap room more in omega (arith, begun.1, e)) in
     (parts, omega arith, length-set bytes i (128 + rest % 128) ∙ begun.2)
-
-pub ends : (i : ℕ) (bytes : List ℕ) (rest : ℕ) (text : List ℕ) → i < 4 → rest < 128 → Begun i bytes rest text → take (i + 1) (set bytes i rest) ≡ text
-ends i bytes rest text lt low begun =
-    let more : 4 - i ≡ suc (4 - (i + 1)) = omega arith in
-    let one : uleb_in (4 - i) rest ≡ rest ∷ [] = ap (λ (k : ℕ). uleb_in k rest) more ∙ uleb_in-last (4 - (i + 1)) rest low in
-    take_more_set bytes i rest (omega (arith, begun.2)) ∙ (ap (λ (t : List ℕ). take i bytes ++ t) (sym one) ∙ begun.0)
 
 pub at_end : (bytes : List ℕ) (rest : ℕ) (text : List ℕ) → Begun 4 bytes rest text → take 5 (set bytes 4 rest) ≡ text
 at_end bytes rest text begun = take_more_set bytes 4 rest (omega (arith, begun.2)) ∙ begun.0

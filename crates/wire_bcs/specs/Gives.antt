@@ -1,11 +1,9 @@
 -- What a reader's call says of the item or the value that it reads.
-use Rattle.std.specs.Prelude.{◌≡◌, ℕ, ◌+◌, ◌-◌, ◌≤◌, ◌==◌, true, false, List, ◌++◌, length, take, drop, Result, Ok, Err}
-use Rattle.std.proofs.Common.{sym, ◌∙◌, ap, arith}
-use Rattle.std.proofs.lemmas.List.{drop-drop, length-drop, length-take-le, take-append-drop}
+use Rattle.std.specs.Prelude.{◌≡◌, ℕ, ◌≤◌, ◌==◌, true, false, List, length, Result, Ok, Err}
 use Rattle.wire_bcs.specs.declared.fault.WireFault.{WireFault}
 use Rattle.wire_bcs.specs.declared.fault.Unread.{Unread}
 use Rattle.wire_bcs.specs.declared.fault.Unread.TheVariants as unread
-use Rattle.wire_bcs.specs.Place.{Place, Stop, Read, Takes, left}
+use Rattle.wire_bcs.specs.Place.{Place, Stop, Read, left}
 
 -- An item was read and the reader stands after it; or there is a fault at the item's first byte, and the
 -- reader stands where it stood.
@@ -36,24 +34,6 @@ pub record Ahead (old new : Place) : Type 0 where
   pub input : new.input ≡ old.input
   pub at : old.at ≤ new.at
   pub end : new.at ≤ length new.input
-
--- so what is left stands after some prefix of what was left
-pub ahead-takes : (old new : Place) → Ahead old new → (text : List ℕ) × Takes old text new
-ahead-takes old new a =
-    let more = new.at - old.at in
-    let text = take more (left old) in
-    let within : old.at + more ≡ new.at = omega (arith, a.at) in
-    let rest : drop more (left old) ≡ left new = drop-drop more old.at old.input ∙ (ap (λ (n : ℕ). drop n old.input) within ∙ ap (λ (bytes : List ℕ). drop new.at bytes) (sym a.input)) in
-    let room : more ≤ length (left old) = omega (arith, length-drop old.at old.input, ap length a.input, a.at, a.end) in
-    let taken : length text ≡ more = length-take-le more (left old) room in
-    let place_at : List ℕ → ℕ → Place = λ bytes n. record { input = bytes; at = n } in
-    let there : old.at + length text ≡ new.at = omega (arith, taken, within) in (
-      text,
-      record {
-        parts = sym (take-append-drop more (left old)) ∙ ap (λ (bytes : List ℕ). text ++ bytes) rest;
-        moved = ap (λ (bytes : List ℕ). place_at bytes new.at) a.input ∙ ap (place_at old.input) (sym there);
-      },
-    )
 
 -- nothing is left, or row 7 at the first byte that is left
 abbrev pub Ended : {X : Type 0} → Place → Result X WireFault → Type 0

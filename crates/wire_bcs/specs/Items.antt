@@ -204,34 +204,6 @@ bytes_codec = record {
 unfoldable pub text_read : Place → Read (List ℕ)
 text_read p = bytes_read p >>= λ x. if is_utf8 x.0 then Ok x else stop p 8
 
-pub text-takes : (p : Place) (x : List ℕ) (q : Place) → IsBytes p.input → text_read p ≡ Ok (x, q) → Takes p (bytes_spell x) q × ((length x < length_limit) × (is_utf8 x ≡ true))
-unfolding text_read
-text-takes p x q fits e =
-    let b = bind_ok (bytes_read p) (λ y. cond (is_utf8 y.0) (Ok y) (stop p 8)) (x, q) e in
-    let t = bytes-takes p b.0.0 b.0.1 fits b.1 in
-    elim (chosen (is_utf8 b.0.0) (Ok b.0) (stop p 8) (Ok (x, q)) b.2) [
-      | inl g ↦
-          let P : List ℕ × Place → Type 0 = λ y. Takes p (bytes_spell y.0) y.1 × ((length y.0 < length_limit) × (is_utf8 y.0 ≡ true)) in
-          subst P (ok_is b.0 (x, q) g.1) (t.0, (t.1, g.0))
-      | inr g ↦ absurd (let r = g.1 in cc)
-    ]
-
-pub text-again : (p : Place) (x rest : List ℕ) → (length x < length_limit) × (is_utf8 x ≡ true) → left p ≡ bytes_spell x ++ rest → text_read p ≡ Ok (x, forward (length (bytes_spell x)) p)
-unfolding text_read
-text-again p x rest fits e = rw (bytes-again p x rest fits.0 e) (rw fits.1 refl)
-
--- a text: the length of its UTF-8 bytes, and the bytes
-abbrev pub text_codec : Codec (List ℕ)
-text_codec = record {
-  short = λ bytes. length bytes < length_limit;
-  fits = λ bytes. (length bytes < length_limit) × (is_utf8 bytes ≡ true);
-  spell = bytes_spell;
-  read = text_read;
-  lists = λ _ fits. fits.0;
-  takes = text-takes;
-  again = text-again;
-}
-
 -- ---- no bytes at all, for a case without fields
 
 pub nothing-takes : (p : Place) (x : Unit {0}) (q : Place) → IsBytes p.input → (let r : Read (Unit {0}) = Ok (tt, p) in r) ≡ Ok (x, q) → Takes p [] q × Unit {0}

@@ -1,8 +1,7 @@
 -- What stands at the end of a writer after a call that may have been refused memory on the way.
 use Rattle.std.specs.Prelude.{◌≡◌, ℕ, Bool, true, false, ◌&&◌, ◌==◌, List, [], ◌∷◌, ◌++◌, Result, Ok, Err, refl}
-use Rattle.std.proofs.Common.{◌∙◌, ap, subst, append_assoc}
-use Rattle.std.proofs.lemmas.List.{append_cancel_left}
-use Rattle.std.proofs.lemmas.Bool.{and_parts, and_from, eqb-true, eq-eqb}
+use Rattle.std.proofs.Common.{subst, append_assoc}
+use Rattle.std.proofs.lemmas.Bool.{and_parts, and_from, eq-eqb}
 use Rattle.wire_bcs.specs.declared.seq.OutOfMemory.{OutOfMemory}
 
 -- the first list is a prefix of the second
@@ -66,23 +65,5 @@ part_then old new a b h =
     let p = and_parts (is_front (old ++ a) new) (is_front new ((old ++ a) ++ b)) h in
     let whole : is_front new (old ++ (a ++ b)) ≡ true = subst (λ (t : List ℕ). is_front new t ≡ true) (append_assoc old a b) p.1 in
     and_from (is_front old new) (is_front new (old ++ (a ++ b))) (front_less old a new p.0) whole
-
-front_rest : (xs ys : List ℕ) → is_front xs ys ≡ true → (rest : List ℕ) × (ys ≡ xs ++ rest)
-front_rest [] ys h = (ys, refl)
-front_rest (x ∷ xs) [] h = absurd cc
-front_rest (x ∷ xs) (y ∷ ys) h =
-    let p = and_parts (x == y) (is_front xs ys) h in
-    let r = front_rest xs ys p.1 in
-    (r.0, let same = eqb-true x y p.0 in cc (r.1))
-
--- what the test means: some prefix of the text stands there
-pub part_means : (old new text : List ℕ) → is_part old new text ≡ true → (front rest : List ℕ) × (new ≡ old ++ front) × (text ≡ front ++ rest)
-unfolding is_part
-part_means old new text h =
-    let p = and_parts (is_front old new) (is_front new (old ++ text)) h in
-    let front = front_rest old new p.0 in
-    let rest = front_rest new (old ++ text) p.1 in
-    let whole : old ++ text ≡ old ++ (front.0 ++ rest.0) = rest.1 ∙ (ap (λ (t : List ℕ). t ++ rest.0) front.1 ∙ append_assoc old front.0 rest.0) in
-    (front.0, rest.0, front.1, append_cancel_left old text (front.0 ++ rest.0) whole)
 
 pub ruleset parts = (part_none, part_first, part_then, append_assoc)

@@ -19,7 +19,7 @@ impl<T: Copy + Drop> Duplicate for T {
 
 impl<T: Duplicate> Duplicate for Seq<T> {
     fn copy(&self) -> Result<Self, OutOfMemory> {
-        let mut copies = Seq::new(self.allocator());
+        let mut copies = Seq::with_room(self.allocator(), self.len())?;
         for item in self.as_slice() {
             let copy = item.copy()?;
             copies.push(copy)?;

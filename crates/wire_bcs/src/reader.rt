@@ -56,7 +56,7 @@ impl<'a> Reader<'a> {
 
     /// The bytes from a mark up to here, lent: a mark that was made on the way here.
     #[tactic(auto, using(crate::proofs::Between::marked))]
-    pub fn since(&self, mark: &Reader<'a>) -> &'a [u8]
+    pub(crate) fn since(&self, mark: &Reader<'a>) -> &'a [u8]
         requires { Ahead mark.now self.now }
         ensures text { (text : List ℕ) → Takes mark.now text self.now → result.now ≡ text }
         ensures input { IsBytes mark.now.input }

@@ -54,6 +54,15 @@ impl<T> Seq<T> {
         }
     }
 
+    /// The empty list, with room for so many items: that many come without moving those before them.
+    pub fn with_room(alloc: Global, items: u64) -> Result<Seq<T>, OutOfMemory>
+        ensures { IfOk result (λ s. s ≡ []) }
+    {
+        Ok(Seq {
+            items: Vec::with_capacity(alloc, items as usize)?,
+        })
+    }
+
     /// The list of these items, in their order.
     pub fn from_vec(items: Vec<T>) -> Seq<T>
         ensures { result ≡ items.items }

@@ -48,6 +48,9 @@ impl Wire for Digest {
     }
 }
 
+/// The items for which a list that is read has room at first: a longer one grows, since its input may end before them.
+const FIRST_ITEMS: u32 = 64;
+
 #[tactic(auto, unfolding(crate::specs::Shapes::seq_spell, crate::specs::Shapes::seq_read), using(crate::specs::Wrote::parts))]
 impl<T: Wire> Wire for Seq<T> {
     ghost codec = { seq T.codec };
@@ -62,7 +65,7 @@ impl<T: Wire> Wire for Seq<T> {
 
     fn read_from(alloc: Global, reader: &mut Reader) -> Result<Self, Unread> {
         let count = reader.len()?;
-        let mut items = Seq::new(alloc);
+        let mut items = Seq::with_room(alloc, count.min(FIRST_ITEMS) as u64)?;
         for _ in 0..count {
             items.push(T::read_from(alloc, reader)?)?;
         }

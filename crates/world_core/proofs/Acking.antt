@@ -18,8 +18,8 @@ use Rattle.world_spec.specs.World.{Made, Said, is_honest, said_by}
 use Rattle.world_spec.specs.Names.{made_named}
 use Rattle.world_spec.specs.Step.{ack_in, last_said}
 use Rattle.world_spec.specs.Report.{ack_reached, acks_collected, final_collected, final_lines}
-use Rattle.scene_spec.specs.Scene.{Scene, bare_setting, bare_world, rules_in}
-use Rattle.scene_spec.specs.Steps.{ack_lines_in, acked_in, called_scene, comes_to, state_at}
+use Rattle.world_spec.specs.Scene.{Scene, bare_setting, bare_world, rules_in}
+use Rattle.world_spec.specs.SceneSteps.{ack_lines_in, acked_in, called_scene, comes_to, state_at}
 use Rattle.world_core.specs.Crews.{honest_flags}
 use Rattle.world_core.specs.Epochs.{ack_statements, ack_text_by, false_ack_by}
 use Rattle.world_core.specs.Votes.{flag_at}

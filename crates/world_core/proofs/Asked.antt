@@ -8,11 +8,11 @@ use Rattle.chain_types.specs.Transactions as transactions
 use Rattle.digest_core.specs.declared.Digest.{Digest}
 use Rattle.protocol_spec.proofs.ListLemmas.{each_at, find-each}
 use Rattle.protocol_spec.specs.Chain.Words.{Each}
-use Rattle.scene_spec.specs.Known.{Known}
+use Rattle.world_spec.specs.Known.{Known}
 use Rattle.world_core.specs.Sound.{IsSpelled, IsSpelledCert}
-use Rattle.world_names.specs.Looks.{made_at, made_of}
-use Rattle.world_names.specs.Rows.{made_as}
-use Rattle.world_names.specs.declared.rows.MadeTx.{MadeTx}
+use Rattle.world_lines.specs.Looks.{made_at, made_of}
+use Rattle.world_lines.specs.KnownRows.{made_as}
+use Rattle.world_lines.specs.declared.rows.MadeTx.{MadeTx}
 use Rattle.world_spec.specs.Names.{cert_in}
 use Rattle.world_spec.specs.World.{Formed, Made}
 

@@ -6,9 +6,9 @@ use Rattle.outside.specs.Lists.{Journals}
 use Rattle.protocol_spec.specs.Chain.Certificates.{Rules}
 use Rattle.protocol_spec.specs.Member.Calls.{Call}
 use Rattle.protocol_spec.specs.Member.Member.{Member}
-use Rattle.scene_spec.specs.Terms.{Terms}
-use Rattle.scene_spec.specs.Posts.{Post, posts_behind, posts_with, reached_in, reached_post, record_left}
-use Rattle.scene_spec.specs.Steps.{standing_at}
+use Rattle.world_spec.specs.Terms.{Terms}
+use Rattle.world_spec.specs.Posts.{Post, posts_behind, posts_with, reached_in, reached_post, record_left}
+use Rattle.world_spec.specs.SceneSteps.{standing_at}
 use Rattle.world_core.specs.declared.reply.Reply.{Reply}
 use Rattle.world_core.specs.declared.reply.SeatFault.{SeatFault}
 use Rattle.world_core.specs.declared.reply.SeatFault.TheVariants as faults

@@ -1,7 +1,7 @@
 -- What a member answers to the close of its epoch, and what becomes of the call.
 use Rattle.std.proofs.Common.{◌≡◌, ◌∙◌, ap, sym, refl, ℕ, Bool, List, ◌++◌, map, append-nil, Result, Ok, Err}
-use Rattle.answer_types.specs.declared.refusals.CloseRefusal.{CloseRefusal}
-use Rattle.answer_types.specs.declared.refusals.CloseRefusal.TheVariants as no_close
+use Rattle.protocol_spec.specs.declared.refusals.CloseRefusal.{CloseRefusal}
+use Rattle.protocol_spec.specs.declared.refusals.CloseRefusal.TheVariants as no_close
 use Rattle.protocol_spec.specs.Chain.Certificates.{Rules}
 use Rattle.protocol_spec.specs.Member.Calls.{close_answer, closes}
 use Rattle.report_text.specs.declared.lines.CloseText.{CloseText}
@@ -11,10 +11,10 @@ use Rattle.validator_core.specs.Seats.{answered}
 use Rattle.world_spec.specs.Setting.{Trust}
 use Rattle.world_spec.specs.World.{Reached, Said, answers, finds_down, said_by, stated, stops}
 use Rattle.world_spec.specs.Report.{close_answered, close_reached}
-use Rattle.scene_spec.proofs.LineWorlds.{close_same}
-use Rattle.scene_spec.specs.Known.{Known, world_with}
-use Rattle.scene_spec.specs.Posts.{reached_in, stated_in}
-use Rattle.scene_spec.specs.Scene.{Scene, bare_setting, bare_world, rules_in}
+use Rattle.world_spec.proofs.LineWorlds.{close_same}
+use Rattle.world_spec.specs.Known.{Known, world_with}
+use Rattle.world_spec.specs.Posts.{reached_in, stated_in}
+use Rattle.world_spec.specs.Scene.{Scene, bare_setting, bare_world, rules_in}
 use Rattle.world_core.specs.Replies.{HasAnswered, HasStopped, SaysClose}
 use Rattle.world_core.specs.Texts.{close_text_by}
 

@@ -1,17 +1,19 @@
 -- What stands after a line that did not come to its end, in each of its ways.
-use Rattle.std.proofs.Common.{◌≡◌, ◌⊎◌, inl, inr, ◌∙◌, ap, sym, refl, subst, ℕ, List, length, Option, Some, None, option_map, Result, Ok, Err, OnErr, arith}
+use Rattle.std.proofs.Common.{◌≡◌, ◌⊎◌, inl, inr, ◌∙◌, ap, sym, refl, subst, ℕ, true, false, List, length, Option, Some, None, option_map, Result, Ok, Err, OnErr, arith}
 use Rattle.outside.specs.Lists.{Journals, KeepsJournals}
 use Rattle.chain_messages.specs.declared.messages.Certificate.{Certificate}
 use Rattle.protocol_spec.specs.Chain.Certificates.{Rules}
 use Rattle.protocol_spec.specs.Member.Calls.{Call, holds, sees, votes}
 use Rattle.world_spec.specs.Setting.{Trust}
 use Rattle.world_spec.specs.World.{Made, Said}
-use Rattle.scene_spec.specs.Terms.{Terms}
-use Rattle.scene_spec.specs.Posts.{AddsAll, AddsLeft, MayAddLeft, Post, posts_behind, reached_in, record_left}
-use Rattle.scene_spec.specs.Scene.{Scene, rules_in}
-use Rattle.scene_spec.specs.Steps.{Work, asked, asks, called_scene, hands, held_call, idle, next_on, sees_left, sees_to, signed_call}
+use Rattle.world_spec.specs.Terms.{Terms}
+use Rattle.world_spec.specs.Posts.{AddsAll, AddsLeft, MayAddLeft, Post, posts_behind, reached_in, record_left}
+use Rattle.world_spec.specs.Scene.{Scene, rules_in}
+use Rattle.world_spec.specs.SceneSteps.{Work, asked, asks, called_scene, hands, held_call, idle, next_on, sees_left, sees_to, signed_call}
 use Rattle.world_core.specs.Crews.{fallen_at}
 use Rattle.world_core.specs.Cuts.{Books, CallCut, EntriesCut, SeenCut, LineCut, NextCut, Still, books_in, ended, fell, still_in, unmade}
+use Rattle.schedule_text.specs.declared.words.Event.{Event}
+use Rattle.world_core.specs.Kept.{is_quiet}
 use Rattle.world_core.specs.Sees.{next_by}
 use Rattle.world_core.specs.Texts.{spelled_cert, spelled_tx}
 use Rattle.world_core.proofs.Nexts.{next_is}
@@ -81,7 +83,8 @@ still_books trust old new None same = ap (λ (x : Still). x.books) same
 still_books trust old new (Some m) (inl same) = inl (ap (λ (x : Still). x.books) same)
 still_books trust old new (Some m) (inr more) = inr (ap (λ (x : Still). x.books) more)
 
-still_posts : (trust : Trust) (old new : Scene) (m : Option ℕ) → SeenCut still_in trust old m new → new.posts ≡ old.posts
+-- and no member changed
+pub still_posts : (trust : Trust) (old new : Scene) (m : Option ℕ) → SeenCut still_in trust old m new → new.posts ≡ old.posts
 still_posts trust old new None same = ap (λ (x : Still). x.posts) same
 still_posts trust old new (Some m) (inl same) = ap (λ (x : Still). x.posts) same
 still_posts trust old new (Some m) (inr more) = ap (λ (x : Still). x.posts) more
@@ -90,7 +93,15 @@ still_posts trust old new (Some m) (inr more) = ap (λ (x : Still). x.posts) mor
 pub quiet_line : (trust : Trust) (r : Rules) (sc new : Scene) (m : Option ℕ) (work : Work) (told : Option Journals) → SeenCut still_in trust sc m new → LineCut r sc work new.posts told told
 quiet_line trust r sc new m work told same = subst (λ (posts : List Post). LineCut r sc work posts told told) (sym (still_posts trust sc new m same)) (unmade_line r sc work told)
 
+-- a line that may keep a record is none of them
+pub loud_posts : (old new : Scene) (e : Event) → is_quiet e ≡ false → is_quiet e ≡ true → new.posts ≡ old.posts
+loud_posts old new e loud quiet = absurd (cc)
+
 -- a start
+pub start_posts : {A E : Type 0} (sc new : Scene) (e : Event) (result : Result A E) → OnErr result (new ≡ sc) → OnErr result (is_quiet e ≡ true → new.posts ≡ sc.posts)
+start_posts sc new e (Ok a) same = tt
+start_posts sc new e (Err x) same = λ (_ : is_quiet e ≡ true). ap (λ (y : Scene). y.posts) same
+
 pub idle_line_on : {A E : Type 0} (r : Rules) (sc new : Scene) (before now : Option Journals) (result : Result A E) → OnErr result (new ≡ sc) → KeepsJournals before now → OnErr result (LineCut r sc idle new.posts before now)
 idle_line_on r sc new before now (Ok a) same keeps = tt
 idle_line_on r sc new before now (Err e) same keeps = record { posts = ap (λ (x : Scene). x.posts) same; lists = keeps }

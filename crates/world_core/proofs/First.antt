@@ -6,10 +6,10 @@ use Rattle.quorum_core.specs.Committee.{committee_of}
 use Rattle.schedule_text.specs.declared.words.Setup.{Setup}
 use Rattle.world_spec.specs.Setting.{Trust, honest_of, objects_from, setting_of, stakes_of, with_new, writers_of}
 use Rattle.world_spec.specs.World.{Formed, Said}
-use Rattle.scene_spec.specs.Known.{Known, known_by}
-use Rattle.scene_spec.specs.Terms.{Terms}
-use Rattle.scene_spec.specs.Posts.{new_posts}
-use Rattle.scene_spec.specs.Scene.{Scene, new_scene}
+use Rattle.world_spec.specs.Known.{Known, known_by}
+use Rattle.world_spec.specs.Terms.{Terms}
+use Rattle.world_spec.specs.Posts.{new_posts}
+use Rattle.world_spec.specs.Scene.{Scene, new_scene}
 use Rattle.world_lines.specs.Orders.{Orders, no_orders}
 use Rattle.world_core.specs.Crews.{Crew}
 use Rattle.world_core.proofs.Sound.{stakes_same}

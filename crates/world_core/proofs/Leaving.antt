@@ -8,8 +8,8 @@ use Rattle.schedule_text.specs.declared.words.Event.TheVariants as event
 use Rattle.world_spec.specs.Setting.{Trust}
 use Rattle.world_spec.specs.World.{Made, is_honest}
 use Rattle.world_spec.specs.Names.{made_named}
-use Rattle.scene_spec.specs.Scene.{Scene, bare_world, rules_in}
-use Rattle.scene_spec.specs.Steps.{ack_work, asks, idle, work_of}
+use Rattle.world_spec.specs.Scene.{Scene, bare_world, rules_in}
+use Rattle.world_spec.specs.SceneSteps.{ack_work, asks, idle, work_of}
 use Rattle.world_core.specs.Kept.{LeavesAs, is_quiet}
 use Rattle.world_core.proofs.Silent.{ack_leaves, end_leaves}
 use Rattle.validator_core.proofs.Settling.{keeps_same}

@@ -12,6 +12,7 @@ pub mod Voting
 pub mod Restarts
 pub mod Steps
 pub mod Stays
+pub mod Stated
 pub mod Seeing
 pub mod Closing
 pub mod SeeTexts

@@ -13,9 +13,9 @@ use Rattle.report_text.specs.declared.lines.VoteText.TheVariants as vote_text
 use Rattle.world_spec.specs.Setting.{Name, Trust}
 use Rattle.world_spec.specs.World.{Made}
 use Rattle.journal_core.specs.declared.records.Record.{Record}
-use Rattle.scene_spec.specs.Posts.{AddsAll, AddsFront, AddsLeft, MayAddLeft, list_of, reached_in, record_left}
-use Rattle.scene_spec.specs.Scene.{Scene}
-use Rattle.scene_spec.specs.Steps.{MayAddLine, asked, asks, called_scene, held_call, hold_text_in, records_left, send_text_in, signed_call, vote_lines_in, vote_text_in, worked}
+use Rattle.world_spec.specs.Posts.{AddsAll, AddsFront, AddsLeft, MayAddLeft, list_of, reached_in, record_left}
+use Rattle.world_spec.specs.Scene.{Scene}
+use Rattle.world_spec.specs.SceneSteps.{MayAddLine, asked, asks, called_scene, held_call, hold_text_in, records_left, send_text_in, signed_call, vote_lines_in, vote_text_in, worked}
 use Rattle.world_core.specs.Replies.{Leaves}
 use Rattle.world_core.specs.Kept.{LeavesAs}
 use Rattle.world_core.specs.Texts.{spelled_cert, spelled_tx}
@@ -105,9 +105,6 @@ send_cut r sc m None bytes before now e is = absurd (cc)
 send_cut r sc m (Some c) bytes before now e is = adds_front before now m _ (subst (λ x. MayAddLeft before now m (record_left (reached_in r sc.posts m (holds x)))) (cc) is)
 
 -- ---- a call after which something else fails
-
-pub may_left : (before now : Option Journals) (m : ℕ) (x : Option Record) → AddsLeft before now m x → MayAddLeft before now m x
-may_left before now m x is = inl is
 
 -- what a call leaves, as what its line leaves
 pub left_as : {A E : Type 0} (r : Rules) (sc : Scene) (m : ℕ) (call : Call) (before now : Option Journals) (result : Result A E) → Leaves before now m (record_left (reached_in r sc.posts m call)) result → LeavesAs r sc (asks m call) before now result

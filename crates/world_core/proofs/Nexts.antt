@@ -11,10 +11,10 @@ use Rattle.world_lines.specs.Orders.{spelled_entry}
 use Rattle.world_spec.specs.Setting.{Trust}
 use Rattle.world_spec.specs.World.{entries_at, next_call_of, numbered_call}
 use Rattle.world_spec.specs.Report.{Lines}
-use Rattle.scene_spec.specs.Posts.{AddsAll, AddsFront, Post, list_of, reached_in, record_left}
-use Rattle.scene_spec.specs.Scene.{Scene, bare_world, rules_in}
-use Rattle.scene_spec.specs.Seats.{Seated}
-use Rattle.scene_spec.specs.Steps.{call_lines_in, left_if, next_on, seat_state, standing_at}
+use Rattle.world_spec.specs.Posts.{AddsAll, AddsFront, Post, list_of, reached_in, record_left}
+use Rattle.world_spec.specs.Scene.{Scene, bare_world, rules_in}
+use Rattle.world_spec.specs.Seats.{Seated}
+use Rattle.world_spec.specs.SceneSteps.{call_lines_in, left_if, next_on, seat_state, standing_at}
 use Rattle.world_core.specs.Replies.{Leaves}
 use Rattle.world_core.specs.Sees.{LeavesAll, next_by, next_for, see_lines_by}
 use Rattle.world_core.proofs.Lines.{adds_all, adds_front}
@@ -69,7 +69,7 @@ next_is sc m = same_next sc (option_map seat_state (standing_at (slice_get sc.po
 -- ---- what handing in the next entry leaves, in the scene
 
 module _ (trust : Trust) (v sc : Scene) (m number : ℕ) (bytes : List ℕ) (view : v ≡ sc) (next : Some (sees number bytes) ≡ next_by v.posts v.sequences m) where
-  next_in : next_on sc m ≡ Some (sees number bytes)
+  pub next_in : next_on sc m ≡ Some (sees number bytes)
   next_in = ap (λ (x : Scene). next_on x m) (sym view) ∙ sym (next_is v m) ∙ sym next
 
   pub next_lines : {E : Type 0} (result : Result Bool E) (old new : List Line)

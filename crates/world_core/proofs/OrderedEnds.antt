@@ -10,8 +10,8 @@ use Rattle.world_spec.specs.Setting.{Trust}
 use Rattle.world_spec.specs.World.{Said, World, is_honest}
 use Rattle.world_spec.specs.Step.{end_in, end_ordered, honest_end, last_said, open_entries, ordered_end, says}
 use Rattle.world_spec.specs.Report.{honest_end_said, order_end_said}
-use Rattle.scene_spec.specs.Scene.{Scene, bare_setting, bare_world}
-use Rattle.scene_spec.specs.Steps.{with_order}
+use Rattle.world_spec.specs.Scene.{Scene, bare_setting, bare_world}
+use Rattle.world_spec.specs.SceneSteps.{with_order}
 use Rattle.world_lines.specs.Orders.{Orders, sealed_end_by, with_entry}
 use Rattle.world_core.specs.Crews.{honest_flags}
 use Rattle.world_core.specs.Cuts.{SeenCut, end_appended, still_in}

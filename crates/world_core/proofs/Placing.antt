@@ -7,9 +7,9 @@ use Rattle.protocol_spec.specs.Chain.Certificates.{Rules}
 use Rattle.protocol_spec.specs.Member.Calls.{Call, called}
 use Rattle.protocol_spec.specs.Member.Member.{fresh}
 use Rattle.world_spec.specs.World.{Reached, finds_down, stops, answers}
-use Rattle.scene_spec.specs.Seats.{Seated}
-use Rattle.scene_spec.specs.Terms.{Terms}
-use Rattle.scene_spec.specs.Posts.{Post, changed_at, new_posts, post_behind, seat_at, seat_behind, standing_with}
+use Rattle.world_spec.specs.Seats.{Seated}
+use Rattle.world_spec.specs.Terms.{Terms}
+use Rattle.world_spec.specs.Posts.{Post, changed_at, new_posts, post_behind, seat_at, seat_behind, standing_with}
 use Rattle.world_core.specs.Crews.{ArePlaced, IsPlaced, IsPlacedPost, honest_at, honest_flags}
 
 -- ---- one member changes

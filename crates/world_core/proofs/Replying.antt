@@ -7,7 +7,7 @@ use Rattle.journal_core.specs.Records.{journal_record}
 use Rattle.outside.specs.Lists.{Journals, journal_of, with_record}
 use Rattle.protocol_spec.specs.Member.Member.{Member}
 use Rattle.world_spec.specs.World.{stops, reached_up}
-use Rattle.scene_spec.specs.Posts.{AddsLeft, MayAddLeft, record_left}
+use Rattle.world_spec.specs.Posts.{AddsLeft, MayAddLeft, record_left}
 use Rattle.world_core.specs.Replies.{KeptWhere, Leaves, Met, spelled_due}
 use Rattle.validator_core.proofs.Settling.{keeps_same}
 

@@ -5,11 +5,11 @@ use Rattle.std.proofs.lemmas.Option.{slice_get_read}
 use Rattle.chain_types.specs.declared.objects.Object.{Object}
 use Rattle.outside.specs.Lists.{Journals}
 use Rattle.protocol_spec.specs.Chain.Certificates.{Rules}
-use Rattle.scene_spec.specs.Seats.{Seated}
+use Rattle.world_spec.specs.Seats.{Seated}
 use Rattle.validator_core.specs.Starts.{Starts}
-use Rattle.scene_spec.specs.Starts.{started}
-use Rattle.scene_spec.specs.Terms.{Terms}
-use Rattle.scene_spec.specs.Posts.{Post, seat_at, starting}
+use Rattle.world_spec.specs.Starts.{started}
+use Rattle.world_spec.specs.Terms.{Terms}
+use Rattle.world_spec.specs.Posts.{Post, seat_at, starting}
 use Rattle.world_core.specs.Crews.{IsPlaced}
 use Rattle.world_core.specs.SeatRestarts.{IsJournal, Restarted}
 use Rattle.world_core.proofs.Placing.{AreWhole, changed_is, whole_with}

@@ -5,8 +5,8 @@ use Rattle.outside.specs.Lists.{Journals}
 use Rattle.report_text.specs.declared.lines.Line.{Line}
 use Rattle.report_text.specs.declared.lines.Line.TheVariants as line
 use Rattle.report_text.specs.declared.lines.RestartText.TheVariants as restart_text
-use Rattle.scene_spec.specs.Posts.{Post}
-use Rattle.scene_spec.specs.Scene.{Scene, rules_in}
+use Rattle.world_spec.specs.Posts.{Post}
+use Rattle.world_spec.specs.Scene.{Scene, rules_in}
 use Rattle.world_core.specs.SeatRestarts.{Restarted}
 use Rattle.world_core.specs.Restarts.{Accepting, RestartsAs}
 

@@ -4,8 +4,8 @@ use Rattle.std.specs.Prelude.{if◌then◌else◌, is_ok, option_and_then, true}
 use Rattle.digest_core.specs.declared.Digest.{Digest}
 use Rattle.quorum_core.specs.declared.signer.Signer.{Signer}
 use Rattle.chain_messages.specs.declared.messages.Statement.{Statement}
-use Rattle.answer_types.specs.declared.refusals.AckRefusal.{AckRefusal}
-use Rattle.answer_types.specs.declared.refusals.EndRefusal.{EndRefusal}
+use Rattle.protocol_spec.specs.declared.refusals.AckRefusal.{AckRefusal}
+use Rattle.protocol_spec.specs.declared.refusals.EndRefusal.{EndRefusal}
 use Rattle.protocol_spec.specs.Chain.Words.{first_some}
 use Rattle.protocol_spec.specs.Chain.Certificates.{Rules}
 use Rattle.protocol_spec.specs.Member.Member.{Member}
@@ -16,11 +16,11 @@ use Rattle.report_text.specs.declared.lines.EndText.{EndText}
 use Rattle.report_text.specs.declared.lines.EndText.TheVariants as end_text
 use Rattle.world_spec.specs.World.{Said, answered_statement, said_by}
 use Rattle.world_spec.specs.Report.{ack_answered, end_answered}
-use Rattle.scene_spec.specs.Known.{Known, world_with}
-use Rattle.scene_spec.specs.Terms.{Terms, rules_for}
-use Rattle.scene_spec.specs.Seats.{Seated, rules_of_seat}
-use Rattle.scene_spec.specs.Posts.{Post, seat_at}
-use Rattle.scene_spec.specs.Steps.{says_in, seat_state}
+use Rattle.world_spec.specs.Known.{Known, world_with}
+use Rattle.world_spec.specs.Terms.{Terms, rules_for}
+use Rattle.world_spec.specs.Seats.{Seated, rules_of_seat}
+use Rattle.world_spec.specs.Posts.{Post, seat_at}
+use Rattle.world_spec.specs.SceneSteps.{says_in, seat_state}
 use Rattle.world_core.specs.Epochs.{ack_statements, ack_text_by, end_statements, end_text_by}
 
 abbrev Accepting : Type 0
@@ -123,9 +123,6 @@ module _ (k : Known) (r : Rules) (m : ℕ) (state : Option Member) where
 -- ---- the first that says something
 
 module _ {A : Type 0} (says : Member → Option A) (p : Post) (posts : List Post) where
-  abbrev said_here : Option A
-  said_here = if p.honest then option_and_then (λ (seat : Seated). says seat.state) p.standing else None
-
   none_first : (o : Option A) → first_some (None ∷ o ∷ []) ≡ o
   none_first None = refl
   none_first (Some x) = refl

@@ -14,11 +14,11 @@ use Rattle.world_spec.specs.Setting.{Trust}
 use Rattle.world_spec.specs.Names.{tx_name}
 use Rattle.world_spec.specs.Step.{entries_left}
 use Rattle.world_spec.specs.Report.{none_taken}
-use Rattle.scene_spec.specs.Known.{world_with}
-use Rattle.scene_spec.specs.Seats.{Seated}
-use Rattle.scene_spec.specs.Posts.{AddsAll, AddsFront, Post}
-use Rattle.scene_spec.specs.Scene.{Scene, bare_world, rules_in}
-use Rattle.scene_spec.specs.Steps.{Work, entries_lines_in, hands, see_halted_in, see_lines_in, seat_state, sees_left, sees_to, standing_at, state_at, worked}
+use Rattle.world_spec.specs.Known.{world_with}
+use Rattle.world_spec.specs.Seats.{Seated}
+use Rattle.world_spec.specs.Posts.{AddsAll, AddsFront, Post}
+use Rattle.world_spec.specs.Scene.{Scene, bare_world, rules_in}
+use Rattle.world_spec.specs.SceneSteps.{Work, entries_lines_in, hands, see_halted_in, see_lines_in, seat_state, sees_left, sees_to, standing_at, state_at, worked}
 use Rattle.world_core.specs.Cuts.{EntriesCut, LineCut}
 use Rattle.world_core.specs.Kept.{LeavesAs}
 use Rattle.world_core.proofs.Cuts.{entries_ended}

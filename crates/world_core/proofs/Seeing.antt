@@ -5,8 +5,8 @@ use Rattle.chain_messages.specs.declared.messages.Entry.{Entry}
 use Rattle.chain_messages.specs.Messages as messages
 use Rattle.journal_core.specs.declared.records.Record.{Record}
 use Rattle.journal_core.specs.declared.records.Record.TheVariants as record_as
-use Rattle.answer_types.specs.declared.refusals.SeeRefusal.{SeeRefusal}
-use Rattle.answer_types.specs.declared.refusals.SeeRefusal.TheVariants as no_see
+use Rattle.protocol_spec.specs.declared.refusals.SeeRefusal.{SeeRefusal}
+use Rattle.protocol_spec.specs.declared.refusals.SeeRefusal.TheVariants as no_see
 use Rattle.journal_core.specs.Records as journals
 use Rattle.outside.specs.Lists.{Journals, with_record}
 use Rattle.report_text.specs.declared.lines.Line.{Line}
@@ -18,11 +18,11 @@ use Rattle.protocol_spec.specs.Member.Calls.{Call, called, due, see_after, see_a
 use Rattle.world_spec.specs.Setting.{Trust}
 use Rattle.world_spec.specs.World.{Said, Reached, answers, built_statements, next_call_of, next_entry, numbered_call, reached_up, said_by, stated, stops}
 use Rattle.world_spec.specs.Report.{Lines, and_lines, entry_lines, entry_reached}
-use Rattle.scene_spec.specs.Seats.{Seated}
-use Rattle.scene_spec.specs.Terms.{Terms, rules_for}
-use Rattle.scene_spec.specs.Posts.{AddsAll, AddsFront, Post, list_of, post_behind, posts_behind, posts_with, reached_in, reached_post, reached_standing, record_left, seat_behind, stated_in, with_all}
-use Rattle.scene_spec.specs.Scene.{Scene, bare_setting, bare_world, rules_in}
-use Rattle.scene_spec.specs.Steps.{call_lines_in, called_if, called_scene, entries_lines_in, left_if, next_on, seat_state, sees_left, sees_to, standing_at}
+use Rattle.world_spec.specs.Seats.{Seated}
+use Rattle.world_spec.specs.Terms.{Terms, rules_for}
+use Rattle.world_spec.specs.Posts.{AddsAll, AddsFront, Post, list_of, post_behind, posts_behind, posts_with, reached_in, reached_post, reached_standing, record_left, seat_behind, stated_in, with_all}
+use Rattle.world_spec.specs.Scene.{Scene, bare_setting, bare_world, rules_in}
+use Rattle.world_spec.specs.SceneSteps.{call_lines_in, called_if, called_scene, entries_lines_in, left_if, next_on, seat_state, sees_left, sees_to, standing_at}
 use Rattle.world_core.specs.Cuts.{EntriesCut, NextCut, books_in}
 use Rattle.world_core.specs.Sees.{HasSeen}
 
@@ -381,9 +381,6 @@ module _ (trust : Trust) (m n : ℕ) (old : Scene) (before : Option Journals) (l
               subst (λ (x : Scene). NextCut rules_old x m (next_on x m) next.posts told later) has.reached
               (subst (λ (r : Rules). NextCut r now m (next_on now m) next.posts told later) same_rules cut);
         }
-
-  pub seen_books : (now : Scene) (told : Option Journals) (so_far : List Line) (left : ℕ) → HasSeen trust m n old now before told lines so_far left → books_in now ≡ books_in old
-  seen_books now told so_far left has = has.books
 
   -- all were handed in
   module _ (now : Scene) (told : Option Journals) (so_far : List Line) (has : HasSeen trust m n old now before told lines so_far 0) where

@@ -16,11 +16,11 @@ use Rattle.protocol_spec.specs.Member.Calls.{Call, ack_answer, acks, due, end_an
 use Rattle.world_spec.specs.Setting.{Trust}
 use Rattle.world_spec.specs.World.{Reached, Said, answers, finds_down, reached_up, said_by, stated}
 use Rattle.world_spec.specs.Report.{ack_reached, end_reached}
-use Rattle.scene_spec.proofs.LineWorlds.{ack_same, end_same}
-use Rattle.scene_spec.specs.Seats.{Seated}
-use Rattle.scene_spec.specs.Posts.{AddsLeft, Post, post_behind, posts_behind, posts_with, reached_in, reached_post, reached_standing, record_left, seat_behind, stated_in}
-use Rattle.scene_spec.specs.Scene.{Scene, bare_setting, bare_world, rules_in}
-use Rattle.scene_spec.specs.Steps.{asks, called_scene, comes_to, seat_state, standing_at, state_at}
+use Rattle.world_spec.proofs.LineWorlds.{ack_same, end_same}
+use Rattle.world_spec.specs.Seats.{Seated}
+use Rattle.world_spec.specs.Posts.{AddsLeft, Post, post_behind, posts_behind, posts_with, reached_in, reached_post, reached_standing, record_left, seat_behind, stated_in}
+use Rattle.world_spec.specs.Scene.{Scene, bare_setting, bare_world, rules_in}
+use Rattle.world_spec.specs.SceneSteps.{asks, called_scene, comes_to, seat_state, standing_at, state_at}
 use Rattle.world_core.specs.Epochs.{ack_statements, ack_text_by, end_statements, end_text_by}
 use Rattle.world_core.specs.Kept.{LeavesAs}
 use Rattle.world_core.proofs.Lines.{left_on}

@@ -16,14 +16,14 @@ use Rattle.schedule_text.specs.declared.words.Setup.TheVariants as line
 use Rattle.world_spec.specs.Setting.{Name, Trust, honest_of, objects_from, stakes_of, with_new}
 use Rattle.world_spec.specs.World.{Formed, Made}
 use Rattle.world_spec.specs.Making.{TxLine}
-use Rattle.scene_spec.specs.Known.{Known, known_by, with_line}
-use Rattle.scene_spec.specs.MadeLines.{line_made}
-use Rattle.scene_spec.specs.Scene.{Scene}
-use Rattle.scene_spec.specs.Worlds.{AreKeepable}
+use Rattle.world_spec.specs.Known.{Known, known_by, with_line}
+use Rattle.world_spec.specs.MadeLines.{line_made}
+use Rattle.world_spec.specs.Scene.{Scene}
+use Rattle.world_spec.specs.SceneWorlds.{AreKeepable}
 use Rattle.world_lines.specs.Orders.{Orders, no_orders}
-use Rattle.scene_spec.specs.Steps.{held_in, with_tx}
+use Rattle.world_spec.specs.SceneSteps.{held_in, with_tx}
 use Rattle.world_core.specs.Sound.{IsSound, IsSpelled, IsSpelledCert}
-use Rattle.world_names.proofs.Opened.{opening_apart}
+use Rattle.world_lines.proofs.Opened.{opening_apart}
 
 -- the first world
 pub sound_first : (lines : List Setup) (opening : List Object) (known : Known) (orders : Orders) (certs : List Formed) → opening ≡ fold with_new [] (objects_from 0 lines) → known ≡ known_by lines → orders ≡ no_orders → certs ≡ [] → IsSound opening known certs orders.sequences
@@ -58,10 +58,6 @@ sound_formed opening known certs new sequences name c is short now =
       apart = is.apart;
       keepable = is.keepable;
     }
-
--- one more entry
-pub sound_ordered : (opening : List Object) (known : Known) (certs : List Formed) (old new : List (List Entry)) → IsSound opening known certs old → AreKeepable new → IsSound opening known certs new
-sound_ordered opening known certs old new is keepable = record { made = is.made; formed = is.formed; apart = is.apart; keepable = keepable }
 
 -- ---- committees
 

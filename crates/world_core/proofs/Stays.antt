@@ -11,9 +11,9 @@ use Rattle.report_text.specs.declared.lines.Line.{Line}
 use Rattle.world_spec.specs.Setting.{Trust}
 use Rattle.world_spec.specs.World.{Made, is_honest, said_by}
 use Rattle.world_spec.specs.Names.{made_named}
-use Rattle.scene_spec.specs.Posts.{Post, arming, changed_at, posts_with, starting}
-use Rattle.scene_spec.specs.Scene.{Scene, bare_world, rules_in}
-use Rattle.scene_spec.specs.Steps.{Work, acked_in, asks, called_if, called_scene, false_ack_in, hands, idle, next_on, sees_to, steps_to, work_of, worked}
+use Rattle.world_spec.specs.Posts.{Post, arming, changed_at, posts_with, starting}
+use Rattle.world_spec.specs.Scene.{Scene, bare_world, rules_in}
+use Rattle.world_spec.specs.SceneSteps.{Work, acked_in, asks, called_if, called_scene, false_ack_in, hands, idle, next_on, sees_to, steps_to, work_of, worked}
 use Rattle.world_core.specs.Restarts.{Accepting, RestartsAs}
 use Rattle.world_core.specs.Stays.{Stays}
 use Rattle.world_core.specs.declared.world.WorldFault.{WorldFault}

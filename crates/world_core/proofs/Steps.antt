@@ -2,8 +2,8 @@
 use Rattle.std.proofs.Common.{Option, Result, Err}
 use Rattle.outside.specs.Lists.{Journals}
 use Rattle.protocol_spec.specs.Chain.Certificates.{Rules}
-use Rattle.scene_spec.specs.Scene.{Scene}
-use Rattle.scene_spec.specs.Steps.{Work}
+use Rattle.world_spec.specs.Scene.{Scene}
+use Rattle.world_spec.specs.SceneSteps.{Work}
 use Rattle.world_core.specs.Kept.{LeavesAs}
 
 -- what did not end, by another name of its fault

@@ -4,14 +4,14 @@ use Rattle.std.specs.Prelude.{IfOk, option_map}
 use Rattle.digest_core.specs.declared.Digest.{Digest}
 use Rattle.quorum_core.specs.declared.signer.Signer.{Signer}
 use Rattle.chain_types.specs.declared.objects.Object.{Object}
-use Rattle.answer_types.specs.declared.answers.Ran.{Ran}
-use Rattle.answer_types.specs.declared.answers.Voted.{Voted as Sent}
-use Rattle.answer_types.specs.declared.refusals.HoldRefusal.{HoldRefusal}
-use Rattle.answer_types.specs.declared.refusals.HoldRefusal.TheVariants as no_hold
-use Rattle.answer_types.specs.declared.refusals.RunRefusal.{RunRefusal}
-use Rattle.answer_types.specs.declared.refusals.RunRefusal.TheVariants as no_run
-use Rattle.answer_types.specs.declared.refusals.VoteRefusal.{VoteRefusal}
-use Rattle.answer_types.specs.declared.refusals.VoteRefusal.TheVariants as no_vote
+use Rattle.protocol_spec.specs.declared.answers.Ran.{Ran}
+use Rattle.protocol_spec.specs.declared.answers.Voted.{Voted as Sent}
+use Rattle.protocol_spec.specs.declared.refusals.HoldRefusal.{HoldRefusal}
+use Rattle.protocol_spec.specs.declared.refusals.HoldRefusal.TheVariants as no_hold
+use Rattle.protocol_spec.specs.declared.refusals.RunRefusal.{RunRefusal}
+use Rattle.protocol_spec.specs.declared.refusals.RunRefusal.TheVariants as no_run
+use Rattle.protocol_spec.specs.declared.refusals.VoteRefusal.{VoteRefusal}
+use Rattle.protocol_spec.specs.declared.refusals.VoteRefusal.TheVariants as no_vote
 use Rattle.protocol_spec.specs.Member.Member.{Member, live_objects}
 use Rattle.protocol_spec.specs.Member.Calls.{Call, Voted, hold_answer, holds, run_answer, runs, vote_answer, votes}
 use Rattle.protocol_spec.specs.Chain.Certificates.{Rules}
@@ -26,15 +26,15 @@ use Rattle.report_text.specs.declared.lines.VoteText.TheVariants as vote_text
 use Rattle.world_spec.specs.Setting.{Trust}
 use Rattle.world_spec.specs.World.{Reached, Said, answers, finds_down, ran_statements, said_by, stated, stops, voted_statement}
 use Rattle.world_spec.specs.Report.{hold_answered, hold_reached, run_answered, run_reached, shown, vote_answered, vote_reached}
-use Rattle.scene_spec.specs.Known.{Known, setting_with, world_with}
+use Rattle.world_spec.specs.Known.{Known, setting_with, world_with}
 use Rattle.world_lines.specs.Answers.{vote_as}
-use Rattle.scene_spec.proofs.LineWorlds.{hold_same, run_same, shown_same, vote_same}
+use Rattle.world_spec.proofs.LineWorlds.{hold_same, run_same, shown_same, vote_same}
 use Rattle.validator_core.specs.Calls.{Holds, Votes, hold_ended, vote_ended}
-use Rattle.scene_spec.specs.Seats.{Seated}
+use Rattle.world_spec.specs.Seats.{Seated}
 use Rattle.validator_core.specs.Seats.{answered}
-use Rattle.scene_spec.specs.Posts.{reached_in, stated_in}
-use Rattle.scene_spec.specs.Scene.{Scene, bare_setting, bare_world, rules_in}
-use Rattle.scene_spec.specs.Steps.{hold_text_in, lines_in, show_in, vote_text_in}
+use Rattle.world_spec.specs.Posts.{reached_in, stated_in}
+use Rattle.world_spec.specs.Scene.{Scene, bare_setting, bare_world, rules_in}
+use Rattle.world_spec.specs.SceneSteps.{hold_text_in, lines_in, show_in, vote_text_in}
 use Rattle.schedule_text.specs.declared.words.Event.TheVariants as event
 use Rattle.world_core.specs.Crews.{shown_of}
 use Rattle.world_core.specs.Replies.{HasAnswered, HasStopped, SaysHold, SaysRun, SaysVote}

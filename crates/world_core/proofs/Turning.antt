@@ -1,9 +1,9 @@
 -- What a member answers to a turn, and what becomes of the call.
-use Rattle.std.proofs.Common.{◌≡◌, ◌∙◌, ap, sym, refl, subst, ℕ, Bool, List, [], ◌∷◌, ◌++◌, map, append-nil, Option, Some, None, Result, Ok, Err}
-use Rattle.std.specs.Prelude.{IfOk, slice_get}
+use Rattle.std.proofs.Common.{◌≡◌, ◌∙◌, ap, sym, refl, ℕ, Bool, List, [], ◌∷◌, ◌++◌, map, append-nil, Option, Some, None, Result, Ok, Err}
+use Rattle.std.specs.Prelude.{slice_get}
 use Rattle.digest_core.specs.declared.Digest.{Digest}
-use Rattle.answer_types.specs.declared.refusals.TurnRefusal.{TurnRefusal}
-use Rattle.answer_types.specs.declared.refusals.TurnRefusal.TheVariants as no_turn
+use Rattle.protocol_spec.specs.declared.refusals.TurnRefusal.{TurnRefusal}
+use Rattle.protocol_spec.specs.declared.refusals.TurnRefusal.TheVariants as no_turn
 use Rattle.journal_core.specs.declared.records.Record.{Record}
 use Rattle.protocol_spec.specs.Chain.Certificates.{Rules}
 use Rattle.protocol_spec.specs.Member.Member.{Member}
@@ -11,19 +11,18 @@ use Rattle.protocol_spec.specs.Member.Calls.{due, turn_answer, turns}
 use Rattle.report_text.specs.declared.lines.Line.{Line}
 use Rattle.report_text.specs.declared.lines.Line.TheVariants as line
 use Rattle.report_text.specs.declared.lines.TurnText.TheVariants as turn_text
-use Rattle.schedule_text.specs.declared.words.Event.TheVariants as event
 use Rattle.validator_core.specs.Calls.{Turns, turn_ended}
 use Rattle.validator_core.specs.Seats.{answered}
 use Rattle.world_lines.specs.Answers.{member_in}
 use Rattle.world_spec.specs.Setting.{Trust}
 use Rattle.world_spec.specs.World.{Reached, Said, World, answers, finds_down, reached_up, said_by, stated, stops}
 use Rattle.world_spec.specs.Report.{turn_answered, turn_reached}
-use Rattle.scene_spec.proofs.LineWorlds.{turn_same}
-use Rattle.scene_spec.specs.Known.{Known, world_with}
-use Rattle.scene_spec.specs.Seats.{Seated}
-use Rattle.scene_spec.specs.Posts.{Post, reached_in, reached_post, reached_standing, stated_in}
-use Rattle.scene_spec.specs.Scene.{Scene, bare_setting, bare_world, rules_in}
-use Rattle.scene_spec.specs.Steps.{lines_in, standing_at}
+use Rattle.world_spec.proofs.LineWorlds.{turn_same}
+use Rattle.world_spec.specs.Known.{Known, world_with}
+use Rattle.world_spec.specs.Seats.{Seated}
+use Rattle.world_spec.specs.Posts.{Post, reached_in, reached_post, reached_standing, stated_in}
+use Rattle.world_spec.specs.Scene.{Scene, bare_setting, bare_world, rules_in}
+use Rattle.world_spec.specs.SceneSteps.{standing_at}
 use Rattle.world_core.specs.Crews.{epoch_of}
 use Rattle.world_core.specs.Epochs.{turn_lines_by}
 use Rattle.world_core.specs.Replies.{HasAnswered, HasStopped, SaysTurn}
@@ -98,15 +97,3 @@ turn_lines_is trust sc m = go (reached_in (rules_in trust.accepts sc) sc.posts m
     go finds_down = refl
     go (stops kept x) = refl
     go (answers before x) = sym (turn_same (bare_setting trust sc) (bare_world sc) m before (turn_answer (rules_in trust.accepts sc) before))
-
-ok_then : {A E : Type 0} (P Q : A → Type 0) (result : Result A E) → ((a : A) → P a → Q a) → IfOk result P → IfOk result Q
-ok_then P Q (Ok a) f p = f a p
-ok_then P Q (Err e) f p = tt
-
-pub turn_told : {E : Type 0} (trust : Trust) (v sc : Scene) (m : ℕ) (result : Result (List Line) E) → v ≡ sc
-    → IfOk result (λ lines. lines ≡ turn_lines_by v.known (rules_in trust.accepts v) m (reached_in (rules_in trust.accepts v) v.posts m turns)) → IfOk result (λ lines. lines ≡ lines_in trust sc (event.Turn m))
-unfolding lines_in
-turn_told trust v sc m result same is =
-    subst (λ (x : Scene). IfOk result (λ lines. lines ≡ lines_in trust x (event.Turn m))) same
-    (ok_then (λ lines. lines ≡ turn_lines_by v.known (rules_in trust.accepts v) m (reached_in (rules_in trust.accepts v) v.posts m turns)) (λ lines. lines ≡ lines_in trust v (event.Turn m)) result
-    (λ lines e. e ∙ turn_lines_is trust v m) is)

@@ -18,9 +18,9 @@ use Rattle.world_spec.specs.World.{Formed, Made, Said, honest_seat, said_by}
 use Rattle.world_spec.specs.Names.{cert_in, made_named}
 use Rattle.world_spec.specs.Report.{cert_collected, cert_lines, fvote_lines, origin_names}
 use Rattle.world_spec.specs.Step.{formed, formed_as, fvote_origins, fvoted, first_origins, last_said, no_origins, origins_or, vote_in, votes_collected}
-use Rattle.scene_spec.specs.Known.{Known, world_with}
-use Rattle.world_names.specs.declared.rows.MadeTx.{MadeTx}
-use Rattle.world_names.specs.Rows.{made_as}
+use Rattle.world_spec.specs.Known.{Known, world_with}
+use Rattle.world_lines.specs.declared.rows.MadeTx.{MadeTx}
+use Rattle.world_lines.specs.KnownRows.{made_as}
 use Rattle.cert_rules.specs.declared.collecting.Collected.{Collected as Given}
 use Rattle.cert_rules.specs.declared.collecting.Collected.TheVariants as given
 use Rattle.cert_rules.specs.Collecting.{collected_as}
@@ -29,8 +29,8 @@ use Rattle.world_lines.specs.Forming.{certificate_by, first_origins_by}
 use Rattle.world_lines.specs.FalseVotes.{origins_by}
 use Rattle.world_lines.specs.SaidVotes.{first_vote, flags_of}
 use Rattle.world_lines.proofs.SaidWorlds.{first_from}
-use Rattle.scene_spec.specs.Posts.{Post}
-use Rattle.scene_spec.specs.Scene.{Scene, bare_seat, bare_setting, bare_world}
+use Rattle.world_spec.specs.Posts.{Post}
+use Rattle.world_spec.specs.Scene.{Scene, bare_seat, bare_setting, bare_world}
 use Rattle.world_core.specs.Crews.{honest_flags}
 use Rattle.world_core.specs.Sound.{IsSpelled, IsSpelledCert}
 use Rattle.world_core.specs.Votes.{flag_at}

@@ -2,11 +2,11 @@
 use Rattle.std.specs.Prelude.{◌≡◌, ℕ, Bool, false, List, Option, Some, None, Result, Ok, Err, map, slice_get, if◌then◌else◌}
 use Rattle.chain_types.specs.declared.objects.Object.{Object}
 use Rattle.protocol_spec.specs.Member.Member.{fork_of, live_objects}
-use Rattle.scene_spec.specs.Terms.{Terms}
-use Rattle.scene_spec.specs.Seats.{Seated}
+use Rattle.world_spec.specs.Terms.{Terms}
+use Rattle.world_spec.specs.Seats.{Seated}
 use Rattle.protocol_spec.specs.Chain.Certificates.{Rules}
 use Rattle.protocol_spec.specs.Member.Calls.{Call}
-use Rattle.scene_spec.specs.Posts.{Post, changed_at, post_behind, posts_behind, reached_post, seat_at}
+use Rattle.world_spec.specs.Posts.{Post, changed_at, post_behind, posts_behind, reached_post, seat_at}
 
 -- the terms of the committee, and its members
 pub record Crew : Type 0 where

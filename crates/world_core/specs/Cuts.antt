@@ -12,11 +12,11 @@ use Rattle.schedule_text.specs.declared.words.Event.TheVariants as event
 use Rattle.world_spec.specs.Setting.{Trust}
 use Rattle.world_spec.specs.Step.{appended_entry, sealed_end}
 use Rattle.world_spec.specs.World.{Formed}
-use Rattle.scene_spec.specs.Known.{Known}
-use Rattle.scene_spec.specs.Terms.{Terms}
-use Rattle.scene_spec.specs.Posts.{AddsAll, AddsLeft, MayAddLeft, Post, posts_behind, reached_in, record_left}
-use Rattle.scene_spec.specs.Scene.{Scene, bare_setting, bare_world}
-use Rattle.scene_spec.specs.Steps.{Work, asks, hands, idle, next_on, sees_left, sees_to, with_order}
+use Rattle.world_spec.specs.Known.{Known}
+use Rattle.world_spec.specs.Terms.{Terms}
+use Rattle.world_spec.specs.Posts.{AddsAll, AddsLeft, MayAddLeft, Post, posts_behind, reached_in, record_left}
+use Rattle.world_spec.specs.Scene.{Scene, bare_setting, bare_world}
+use Rattle.world_spec.specs.SceneSteps.{Work, asks, hands, idle, next_on, sees_left, sees_to, with_order}
 use Rattle.world_core.specs.Crews.{fallen_at}
 
 -- ---- beside the members

@@ -17,9 +17,9 @@ use Rattle.world_spec.specs.World.{Made, Reached, answered_statement, answers, f
 use Rattle.world_spec.specs.Making.{digest_or_zero, spoiled_if}
 use Rattle.world_spec.specs.Step.{executed_digest}
 use Rattle.world_spec.specs.Report.{ack_answered, end_answered, turn_answered}
-use Rattle.scene_spec.specs.Known.{Known, world_with}
-use Rattle.scene_spec.specs.Posts.{Post}
-use Rattle.scene_spec.specs.Steps.{says_in}
+use Rattle.world_spec.specs.Known.{Known, world_with}
+use Rattle.world_spec.specs.Posts.{Post}
+use Rattle.world_spec.specs.SceneSteps.{says_in}
 
 -- what a member that is up says of its End, and of an acknowledgement
 abbrev pub end_text_by : Known → Rules → Option Member → EndText

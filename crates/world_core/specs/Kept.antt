@@ -4,8 +4,8 @@ use Rattle.outside.specs.Lists.{Journals}
 use Rattle.protocol_spec.specs.Chain.Certificates.{Rules}
 use Rattle.schedule_text.specs.declared.words.Event.{Event}
 use Rattle.schedule_text.specs.declared.words.Event.TheVariants as event
-use Rattle.scene_spec.specs.Scene.{Scene}
-use Rattle.scene_spec.specs.Steps.{AddsLine, MayAddLine, Work, records_left}
+use Rattle.world_spec.specs.Scene.{Scene}
+use Rattle.world_spec.specs.SceneSteps.{AddsLine, MayAddLine, Work, records_left}
 
 -- Ok: the records that the line leaves were added, or nothing if it leaves none; else the first of them
 abbrev pub LeavesAs : {A E : Type 0} → Rules → Scene → Work → Option Journals → Option Journals → Result A E → Type 0

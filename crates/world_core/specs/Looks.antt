@@ -1,6 +1,6 @@
 -- What others ask of a world. Source: this profile.
 use Rattle.std.specs.Prelude.{ℕ, Option, Result, option_and_then, option_map, slice_get}
-use Rattle.answer_types.specs.declared.refusals.VoteRefusal.{VoteRefusal}
+use Rattle.protocol_spec.specs.declared.refusals.VoteRefusal.{VoteRefusal}
 use Rattle.chain_types.specs.declared.transactions.SignedTx.{SignedTx}
 use Rattle.chain_types.specs.declared.transactions.Transaction.{Transaction}
 use Rattle.checkpoint_core.specs.declared.checkpoints.Checkpoint.{Checkpoint}
@@ -9,11 +9,11 @@ use Rattle.protocol_spec.specs.Member.Calls.{Voted}
 use Rattle.protocol_spec.specs.Member.Member.{built}
 use Rattle.report_text.specs.declared.lines.Line.{Line}
 use Rattle.report_text.specs.declared.lines.Line.TheVariants as line
-use Rattle.scene_spec.specs.Known.{Known, setting_with, world_with}
-use Rattle.scene_spec.specs.Posts.{Post}
-use Rattle.scene_spec.specs.Seats.{Seated}
+use Rattle.world_spec.specs.Known.{Known, setting_with, world_with}
+use Rattle.world_spec.specs.Posts.{Post}
+use Rattle.world_spec.specs.Seats.{Seated}
 use Rattle.world_core.specs.Crews.{honest_at}
-use Rattle.world_names.specs.Looks.{made_at, made_of}
+use Rattle.world_lines.specs.Looks.{made_at, made_of}
 use Rattle.world_spec.specs.Names.{tx_name}
 use Rattle.world_spec.specs.Report.{vote_answered}
 use Rattle.world_spec.specs.World.{Made}

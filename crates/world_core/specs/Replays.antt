@@ -4,9 +4,9 @@ use Rattle.chain_types.specs.declared.objects.Object.{Object}
 use Rattle.outside.specs.Lists.{Journals}
 use Rattle.protocol_spec.specs.Chain.Certificates.{Rules}
 use Rattle.protocol_spec.specs.Member.Member.{Member}
-use Rattle.scene_spec.specs.Starts.{started}
-use Rattle.scene_spec.specs.Terms.{Terms}
-use Rattle.scene_spec.specs.Posts.{seat_at}
+use Rattle.world_spec.specs.Starts.{started}
+use Rattle.world_spec.specs.Terms.{Terms}
+use Rattle.world_spec.specs.Posts.{seat_at}
 use Rattle.world_core.specs.SeatRestarts.{IsJournal}
 use Rattle.world_core.specs.declared.replay.Replayed.{Replayed}
 

@@ -9,9 +9,9 @@ use Rattle.report_text.specs.declared.lines.Line.{Line}
 use Rattle.report_text.specs.declared.lines.Line.TheVariants as line
 use Rattle.report_text.specs.declared.lines.RestartText.TheVariants as restart_text
 use Rattle.protocol_spec.specs.Member.Member.{Member}
-use Rattle.scene_spec.specs.Starts.{started}
-use Rattle.scene_spec.specs.Posts.{Post, started_at}
-use Rattle.scene_spec.specs.Scene.{Scene, rules_in}
+use Rattle.world_spec.specs.Starts.{started}
+use Rattle.world_spec.specs.Posts.{Post, started_at}
+use Rattle.world_spec.specs.Scene.{Scene, rules_in}
 use Rattle.world_core.specs.SeatRestarts.{HasBadRecord, IsJournal}
 use Rattle.world_core.specs.declared.world.WorldFault.{WorldFault}
 use Rattle.world_core.specs.declared.world.WorldFault.TheVariants as fault

@@ -3,11 +3,11 @@ use Rattle.std.specs.Prelude.{◌≡◌, ℕ, List, Option, Some, None, Ok, Err,
 use Rattle.chain_types.specs.declared.objects.Object.{Object}
 use Rattle.outside.specs.Lists.{Journals, journal_of}
 use Rattle.protocol_spec.specs.Chain.Certificates.{Rules}
-use Rattle.answer_types.specs.declared.refusals.StartRefusal.TheVariants as no_start
+use Rattle.protocol_spec.specs.declared.refusals.StartRefusal.TheVariants as no_start
 use Rattle.protocol_spec.specs.Member.Member.{Member}
-use Rattle.scene_spec.specs.Starts.{started}
-use Rattle.scene_spec.specs.Terms.{Terms}
-use Rattle.scene_spec.specs.Posts.{Post, started_at}
+use Rattle.world_spec.specs.Starts.{started}
+use Rattle.world_spec.specs.Terms.{Terms}
+use Rattle.world_spec.specs.Posts.{Post, started_at}
 
 -- these are the records of a member, if lists are observable
 abbrev pub IsJournal : Option Journals → ℕ → List (List ℕ) → Type 0

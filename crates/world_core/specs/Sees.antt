@@ -13,11 +13,11 @@ use Rattle.report_text.specs.declared.lines.EntryText.TheVariants as entry_text
 use Rattle.world_spec.specs.Setting.{Trust}
 use Rattle.world_spec.specs.World.{Reached, finds_down, stops, answers, entries_at, numbered_call}
 use Rattle.world_spec.specs.Report.{Lines, entry_lines}
-use Rattle.scene_spec.specs.Known.{Known, setting_staked, world_with}
-use Rattle.scene_spec.specs.Posts.{AddsAll, AddsFront, Post}
-use Rattle.scene_spec.specs.Scene.{Scene, rules_in}
+use Rattle.world_spec.specs.Known.{Known, setting_staked, world_with}
+use Rattle.world_spec.specs.Posts.{AddsAll, AddsFront, Post}
+use Rattle.world_spec.specs.Scene.{Scene, rules_in}
 use Rattle.world_core.specs.Cuts.{books_in}
-use Rattle.scene_spec.specs.Steps.{entries_lines_in, seat_state, sees_left, sees_to, standing_at}
+use Rattle.world_spec.specs.SceneSteps.{entries_lines_in, seat_state, sees_left, sees_to, standing_at}
 
 abbrev pub see_lines_by : Known → Rules → ℕ → ℕ → List ℕ → Reached → Lines
 see_lines_by k r m number bytes finds_down = (line.See m see_text.Down ∷ [], false)

@@ -6,10 +6,10 @@ use Rattle.chain_types.specs.Transactions as transactions
 use Rattle.chain_messages.specs.declared.messages.Entry.{Entry}
 use Rattle.chain_messages.specs.Messages as messages
 use Rattle.protocol_spec.specs.Chain.Words.{Each}
-use Rattle.scene_spec.specs.Starts.{AreApart}
+use Rattle.world_spec.specs.Starts.{AreApart}
 use Rattle.world_spec.specs.World.{Formed, Made}
-use Rattle.scene_spec.specs.Known.{Known}
-use Rattle.scene_spec.specs.Worlds.{AreKeepable}
+use Rattle.world_spec.specs.Known.{Known}
+use Rattle.world_spec.specs.SceneWorlds.{AreKeepable}
 
 abbrev pub IsSpelled : Made → Type 0
 IsSpelled t = transactions.signed.short t.signed

@@ -1,6 +1,6 @@
 -- What no step changes.
 use Rattle.std.specs.Prelude.{◌≡◌, length}
-use Rattle.scene_spec.specs.Scene.{Scene}
+use Rattle.world_spec.specs.Scene.{Scene}
 
 -- the number of members, and the terms of their committee
 pub record Stays (old new : Scene) : Type 0 where

@@ -3,8 +3,8 @@ use Rattle.std.specs.Prelude.{Option, option_map, length}
 use Rattle.effects_core.specs.Money.{currency_sum}
 use Rattle.protocol_spec.specs.Member.Member.{Member, built, live_objects}
 use Rattle.validator_core.specs.Built.{transactions_in}
-use Rattle.scene_spec.specs.Seats.{Seated}
-use Rattle.scene_spec.specs.Posts.{Post}
+use Rattle.world_spec.specs.Seats.{Seated}
+use Rattle.world_spec.specs.Posts.{Post}
 use Rattle.world_core.specs.Crews.{honest_at}
 use Rattle.world_core.specs.declared.sums.Sums.{Sums}
 

@@ -18,8 +18,8 @@ use Rattle.protocol_spec.specs.Member.Member.{live_objects}
 use Rattle.protocol_spec.specs.Member.Calls.{close_answer, hold_answer, run_answer, vote_answer}
 use Rattle.world_spec.specs.World.{Made, Reached, finds_down, stops, answers}
 use Rattle.world_spec.specs.Report.{close_answered, hold_answered, run_answered, shown, vote_answered}
-use Rattle.scene_spec.specs.Known.{Known, setting_with, world_with}
-use Rattle.scene_spec.specs.Seats.{Seated}
+use Rattle.world_spec.specs.Known.{Known, setting_with, world_with}
+use Rattle.world_spec.specs.Seats.{Seated}
 
 abbrev pub vote_text_by : Known → Rules → List ℕ → Reached → VoteText
 vote_text_by k r bytes finds_down = vote_text.Down

@@ -1,16 +1,18 @@
 //! Acknowledgements, and what a quorum of them makes final.
 
-ghost use Rattle.std.specs.Prelude.{◌≡◌, ◌∷◌, ◌++◌, [], IfOk, OnOk, map, option_map, slice_get};
+ghost use Rattle.std.specs.Prelude.{◌≡◌, ◌∷◌, ◌++◌, [], IfOk, OnErr, OnOk, map, option_map, slice_get};
 ghost use Rattle.report_text.specs.declared.lines.Line.TheVariants as line;
-ghost use Rattle.scene_spec.specs.Known.{world_with};
-ghost use Rattle.scene_spec.specs.Scene.{bare_setting, bare_world, rules_in};
-ghost use Rattle.scene_spec.specs.Steps.{ack_lines_in, acked_in, seat_state, standing_at};
-ghost use Rattle.scene_spec.specs.Terms.{rules_for};
+ghost use Rattle.schedule_text.specs.declared.words.Event.TheVariants as events;
+ghost use Rattle.world_spec.specs.Known.{world_with};
+ghost use Rattle.world_spec.specs.Scene.{bare_setting, bare_world, rules_in};
+ghost use Rattle.world_spec.specs.SceneSteps.{ack_lines_in, acked_in, seat_state, standing_at, steps_to};
+ghost use Rattle.world_spec.specs.Terms.{rules_for};
 ghost use Rattle.world_core.specs.Cuts.{still_in};
 ghost use Rattle.world_core.specs.Epochs.{ack_statements, ack_text_by, false_ack_by};
 ghost use Rattle.world_core.specs.Trusts.{trust_by};
 ghost use Rattle.world_lines.specs.Answers.{stated_as};
-ghost use Rattle.world_names.specs.Rows.{made_as};
+ghost use Rattle.world_lines.specs.KnownRows.{made_as};
+ghost use Rattle.world_lines.specs.Pushed.{GrowsToward};
 ghost use Rattle.world_spec.specs.Names.{made_named};
 ghost use Rattle.world_spec.specs.Report.{ack_answered, final_lines};
 ghost use Rattle.world_spec.specs.World.{answered_statement, said_by};
@@ -18,17 +20,18 @@ ghost use Rattle.world_spec.specs.World.{answered_statement, said_by};
 use crate::seats::Seats;
 use crate::votes::is_honest;
 use crate::world::World;
-use answer_types::AckRefusal;
 use chain_messages::{Sealed, Statement};
 use digest_core::Digest;
+use protocol_spec::AckRefusal;
 use quorum_core::Sealer;
 use report_text::{AckText, FinalText, Line};
 use std::alloc::Global;
 use wire_bcs::{OutOfMemory, Seq};
-use world_lines::{SaidBook, ack_text, final_text, one_line};
-use world_names::{Directory, MadeTx, MakesSeals, spoiled_if};
+use world_lines::{
+    Directory, MadeTx, MakesSeals, SaidBook, ack_text, final_text, one_line, spoiled_if,
+};
 
-/// The ending for a member's answer; its acknowledgement is stated.
+/// The ending for a member's answer; its acknowledgement is stated, or nothing where memory is refused.
 fn tell_ack(
     directory: &Directory,
     said: &mut SaidBook,
@@ -37,6 +40,7 @@ fn tell_ack(
 ) -> Result<AckText, OutOfMemory>
     ensures text { IfOk result (λ text. text ≡ ack_answered (world_with directory.now) (stated_as answer)) }
     ensures said { OnOk result (said.new ≡ said.old ++ map (said_by member) (answered_statement (stated_as answer))) }
+    ensures unsaid { OnErr result (said.new ≡ said.old) }
 {
     let text = ack_text(directory, &answer)?;
     match answer {
@@ -60,6 +64,7 @@ fn say_ack<S: Sealer>(
 ) -> Result<AckText, OutOfMemory>
     ensures text { IfOk result (λ text. text ≡ ack_text_by directory.now (rules_for seats.now.terms (S.accepts sealer.now)) tx.now (option_map seat_state (standing_at (slice_get seats.now.posts member)))) }
     ensures said { OnOk result (said.new ≡ said.old ++ map (said_by member) (ack_statements (rules_for seats.now.terms (S.accepts sealer.now)) tx.now (option_map seat_state (standing_at (slice_get seats.now.posts member))))) }
+    ensures unsaid { OnErr result (said.new ≡ said.old) }
 {
     match seats.ack(sealer, member, tx)? {
         Some(answer) => tell_ack(directory, said, member, answer),
@@ -103,7 +108,7 @@ fn final_line(alloc: Global, tx: &[u8], text: FinalText) -> Result<Seq<Line>, Ou
 impl World {
     /// The line `ack`: an honest member acknowledges a transaction that it executed, a faulty one any, with a digest
     /// that may be spoiled. It keeps no record.
-    #[tactic(auto, using(crate::proofs::Acking::unnamed_acks, crate::proofs::Acking::unnamed_lines, crate::proofs::Acking::honest_acks, crate::proofs::Acking::honest_lines, crate::proofs::Acking::faulty_acks, crate::proofs::Acking::faulty_lines))]
+    #[tactic(auto, using(crate::proofs::Acking::unnamed_acks, crate::proofs::Acking::unnamed_lines, crate::proofs::Acking::honest_acks, crate::proofs::Acking::honest_lines, crate::proofs::Acking::faulty_acks, crate::proofs::Acking::faulty_lines, crate::proofs::Stated::unsaid_on))]
     pub(crate) fn say_ack<S: MakesSeals>(
         &mut self,
         sealer: &S,
@@ -114,6 +119,7 @@ impl World {
         ensures world { OnOk result (self.new ≡ acked_in (rules_in (S.accepts sealer.now) self.old) self.old member spoiled (made_named (bare_world self.old) tx.now)) }
         ensures lines { IfOk result (λ lines. lines ≡ ack_lines_in (trust_by (S.made sealer.now) (S.accepts sealer.now)) self.old member tx.now (made_named (bare_world self.old) tx.now)) }
         ensures still { still_in self.new ≡ still_in self.old }
+        ensures said { OnErr result (GrowsToward self.old.said self.new.said (steps_to (trust_by (S.made sealer.now) (S.accepts sealer.now)) self.old (events.Ack member tx.now spoiled)).said) }
     {
         let Some(made) = self.directory.made(tx) else {
             return ack_line(self.alloc, member, tx, AckText::Down);

@@ -2,12 +2,12 @@
 
 ghost use Rattle.std.specs.Prelude.{◌≡◌, IfOk, OnErr, is_ok, true};
 ghost use Rattle.protocol_spec.specs.Member.Calls.{ack_answer, end_answer};
-ghost use Rattle.scene_spec.specs.Seats.{rules_of_seat};
+ghost use Rattle.world_spec.specs.Seats.{rules_of_seat};
 ghost use Rattle.world_lines.specs.Answers.{stated_as};
 
-use answer_types::{AckRefusal, EndRefusal};
 use chain_messages::Sealed;
 use digest_core::Digest;
+use protocol_spec::{AckRefusal, EndRefusal};
 use quorum_core::Sealer;
 use validator_core::Validator;
 use wire_bcs::OutOfMemory;

@@ -5,17 +5,18 @@ ghost use Rattle.chain_messages.specs.Messages as codecs;
 ghost use Rattle.chain_types.specs.Transactions as tx_codecs;
 ghost use Rattle.outside.specs.Causes.{Rose};
 ghost use Rattle.report_text.specs.declared.lines.Line.TheVariants as line;
-ghost use Rattle.scene_spec.specs.Terms.{rules_for};
+ghost use Rattle.world_spec.specs.Terms.{rules_for};
 ghost use Rattle.protocol_spec.specs.Member.Calls.{holds, runs, votes};
 ghost use Rattle.schedule_text.specs.declared.words.Event.TheVariants as events;
 ghost use Rattle.world_spec.specs.Names.{cert_named, made_named};
 ghost use Rattle.world_spec.specs.Report.{run_answered, run_reached, vote_answered};
 ghost use Rattle.world_spec.specs.World.{ran_statements, said_by, voted_statement};
 ghost use Rattle.world_lines.specs.Answers.{vote_as};
-ghost use Rattle.scene_spec.specs.Known.{setting_with, world_with};
-ghost use Rattle.scene_spec.specs.Posts.{posts_behind, reached_in, record_left, stated_in};
-ghost use Rattle.scene_spec.specs.Scene.{bare_setting, bare_world, rules_in};
-ghost use Rattle.scene_spec.specs.Steps.{called_scene, hold_text_in, lines_in, steps_to, vote_text_in, work_of};
+ghost use Rattle.world_lines.specs.Pushed.{GrowsToward};
+ghost use Rattle.world_spec.specs.Known.{setting_with, world_with};
+ghost use Rattle.world_spec.specs.Posts.{posts_behind, reached_in, record_left, stated_in};
+ghost use Rattle.world_spec.specs.Scene.{bare_setting, bare_world, rules_in};
+ghost use Rattle.world_spec.specs.SceneSteps.{called_scene, hold_text_in, lines_in, steps_to, vote_text_in, work_of};
 ghost use Rattle.world_core.specs.declared.reply.SeatFault.TheVariants as fault;
 ghost use Rattle.world_core.specs.Cuts.{CallCut, LineCut, books_in};
 ghost use Rattle.world_core.specs.Replies.{Leaves};
@@ -25,18 +26,17 @@ ghost use Rattle.world_core.specs.Trusts.{trust_by};
 
 use crate::world::World;
 use crate::{Reply, SeatFault, Seats};
-use answer_types::{Ran, RunRefusal, VoteRefusal, Voted};
 use outside::Keeper;
+use protocol_spec::{Ran, RunRefusal, VoteRefusal, Voted};
 use quorum_core::Sealer;
 use report_text::{Line, RunText, SendText, VoteText};
 use schedule_text::Event;
 use std::alloc::Global;
 use std::thread::Threads;
 use wire_bcs::{OutOfMemory, Seq};
-use world_lines::{SaidBook, hold_text, one_line, run_lines, vote_text};
-use world_names::{Directory, MakesSeals};
+use world_lines::{Directory, MakesSeals, SaidBook, hold_text, one_line, run_lines, vote_text};
 
-/// The ending for a member's answer to a request for its vote; its vote is stated.
+/// The ending for a member's answer to a request for its vote; its vote is stated, or nothing where memory is refused.
 fn tell_vote(
     directory: &Directory,
     said: &mut SaidBook,
@@ -45,6 +45,7 @@ fn tell_vote(
 ) -> Result<VoteText, OutOfMemory>
     ensures text { IfOk result (λ text. text ≡ vote_answered (setting_with directory.now) (world_with directory.now) (vote_as answer)) }
     ensures said { OnOk result (said.new ≡ said.old ++ map (said_by member) (voted_statement (vote_as answer))) }
+    ensures unsaid { OnErr result (said.new ≡ said.old) }
 {
     let text = vote_text(directory, &answer)?;
     match answer {
@@ -71,6 +72,7 @@ fn ask<R: Threads + Sync, D: Keeper, S: Sealer>(
     requires known { length seats.old.posts ≤ D.width keeper.old }
     ensures text { IfOk result (λ text. text ≡ vote_text_by directory.now (rules_for seats.old.terms (S.accepts sealer.now)) bytes.now (reached_in (rules_for seats.old.terms (S.accepts sealer.now)) seats.old.posts member (votes bytes.now))) }
     ensures said { OnOk result (said.new ≡ said.old ++ map (said_by member) (stated_in (rules_for seats.old.terms (S.accepts sealer.now)) (votes bytes.now) (reached_in (rules_for seats.old.terms (S.accepts sealer.now)) seats.old.posts member (votes bytes.now)))) }
+    ensures unsaid { OnErr result (said.new ≡ said.old) }
     ensures posts { OnOk result (seats.new.posts ≡ posts_behind (rules_for seats.old.terms (S.accepts sealer.now)) seats.old.posts member (votes bytes.now)) }
     ensures terms { seats.new.terms ≡ seats.old.terms }
     ensures count { length seats.new.posts ≡ length seats.old.posts }
@@ -142,7 +144,8 @@ fn run_line(alloc: Global, member: u32, text: RunText) -> Result<Seq<Line>, Seat
     }
 }
 
-/// The lines of a run; its checkpoints are stated.
+/// The lines of a run; its checkpoints are stated, and only the first of them, or none, where memory is refused.
+#[tactic(auto, using(world_lines::proofs::Growing::none_added, crate::proofs::Stated::some_said))]
 fn tell_run(
     directory: &Directory,
     said: &mut SaidBook,
@@ -151,6 +154,7 @@ fn tell_run(
 ) -> Result<Seq<Line>, OutOfMemory>
     ensures lines { IfOk result (λ lines. lines ≡ run_answered (setting_with directory.now) (world_with directory.now) member answer.now) }
     ensures said { OnOk result (said.new ≡ said.old ++ map (said_by member) (ran_statements answer.now)) }
+    ensures grew { OnErr result (GrowsToward said.old said.new (said.old ++ map (said_by member) (ran_statements answer.now))) }
 {
     let lines = run_lines(directory, member, answer)?;
     if let Ok(ran) = answer {
@@ -182,6 +186,7 @@ fn run<R: Threads + Sync, D: Keeper, S: Sealer>(
     requires workers { (0 < workers) × (workers ≤ 16) }
     ensures lines { IfOk result (λ lines. lines ≡ run_lines_by directory.now (rules_for seats.old.terms (S.accepts sealer.now)) member (reached_in (rules_for seats.old.terms (S.accepts sealer.now)) seats.old.posts member runs)) }
     ensures said { OnOk result (said.new ≡ said.old ++ map (said_by member) (stated_in (rules_for seats.old.terms (S.accepts sealer.now)) runs (reached_in (rules_for seats.old.terms (S.accepts sealer.now)) seats.old.posts member runs))) }
+    ensures grew { OnErr result (GrowsToward said.old said.new (said.old ++ map (said_by member) (stated_in (rules_for seats.old.terms (S.accepts sealer.now)) runs (reached_in (rules_for seats.old.terms (S.accepts sealer.now)) seats.old.posts member runs)))) }
     ensures posts { OnOk result (seats.new.posts ≡ posts_behind (rules_for seats.old.terms (S.accepts sealer.now)) seats.old.posts member runs) }
     ensures terms { seats.new.terms ≡ seats.old.terms }
     ensures count { length seats.new.posts ≡ length seats.old.posts }
@@ -256,6 +261,7 @@ impl World {
         ensures kept { Leaves (D.lists keeper.old) (D.lists keeper.new) member (record_left (reached_in (rules_in (S.accepts sealer.now) self.old) self.old.posts member (votes bytes.now))) result }
         ensures cut { OnErr result (CallCut (rules_in (S.accepts sealer.now) self.old) member (votes bytes.now) self.old.posts self.new.posts (D.lists keeper.old) (D.lists keeper.new)) }
         ensures books { books_in self.new ≡ books_in self.old }
+        ensures unsaid { OnErr result (self.new.said ≡ self.old.said) }
         ensures width { D.width keeper.new ≡ D.width keeper.old }
         ensures later { D.failed keeper.old ≤ D.failed keeper.new }
         ensures fault { IsErrOf result fault.KeepFault → Rose (D.failed keeper.old) (D.failed keeper.new) }
@@ -288,6 +294,7 @@ impl World {
         ensures kept { Leaves (D.lists keeper.old) (D.lists keeper.new) member (record_left (reached_in (rules_in (S.accepts sealer.now) self.old) self.old.posts member (holds bytes.now))) result }
         ensures cut { OnErr result (CallCut (rules_in (S.accepts sealer.now) self.old) member (holds bytes.now) self.old.posts self.new.posts (D.lists keeper.old) (D.lists keeper.new)) }
         ensures books { books_in self.new ≡ books_in self.old }
+        ensures unsaid { self.new.said ≡ self.old.said }
         ensures width { D.width keeper.new ≡ D.width keeper.old }
         ensures later { D.failed keeper.old ≤ D.failed keeper.new }
         ensures fault { IsErrOf result fault.KeepFault → Rose (D.failed keeper.old) (D.failed keeper.new) }
@@ -304,7 +311,7 @@ impl World {
     }
 
     /// The line `vote`: asks a member for its vote for the transaction of this name.
-    #[tactic(auto, unfolding(scene_spec::specs::Steps::steps_to, scene_spec::specs::Steps::lines_in, scene_spec::specs::Steps::work_of), using(crate::proofs::Lines::vote_none_world, crate::proofs::Lines::vote_none_lines, crate::proofs::Lines::vote_none_kept, crate::proofs::Lines::vote_some_world, crate::proofs::Lines::vote_some_lines, crate::proofs::Lines::vote_some_kept, crate::proofs::Lines::vote_cut))]
+    #[tactic(auto, unfolding(world_spec::specs::SceneSteps::steps_to, world_spec::specs::SceneSteps::lines_in, world_spec::specs::SceneSteps::work_of), using(crate::proofs::Lines::vote_none_world, crate::proofs::Lines::vote_none_lines, crate::proofs::Lines::vote_none_kept, crate::proofs::Lines::vote_some_world, crate::proofs::Lines::vote_some_lines, crate::proofs::Lines::vote_some_kept, crate::proofs::Lines::vote_cut))]
     fn vote<R: Threads + Sync, D: Keeper, S: MakesSeals>(
         &mut self,
         rt: &R,
@@ -319,6 +326,7 @@ impl World {
         ensures kept { LeavesAs (rules_in (S.accepts sealer.now) self.old) self.old (work_of self.old (events.Vote member tx.now)) (D.lists keeper.old) (D.lists keeper.new) result }
         ensures cut { OnErr result (LineCut (rules_in (S.accepts sealer.now) self.old) self.old (work_of self.old (events.Vote member tx.now)) self.new.posts (D.lists keeper.old) (D.lists keeper.new)) }
         ensures books { books_in self.new ≡ books_in self.old }
+        ensures said { OnErr result (GrowsToward self.old.said self.new.said (steps_to (trust_by (S.made sealer.now) (S.accepts sealer.now)) self.old (events.Vote member tx.now)).said) }
         ensures width { D.width keeper.new ≡ D.width keeper.old }
         ensures later { D.failed keeper.old ≤ D.failed keeper.new }
         ensures fault { IsErrOf result fault.KeepFault → Rose (D.failed keeper.old) (D.failed keeper.new) }
@@ -355,7 +363,7 @@ impl World {
     }
 
     /// The line `send`: hands the certificate that was formed last for this name to a member.
-    #[tactic(auto, unfolding(scene_spec::specs::Steps::steps_to, scene_spec::specs::Steps::lines_in, scene_spec::specs::Steps::work_of), using(crate::proofs::Lines::send_none_world, crate::proofs::Lines::send_none_lines, crate::proofs::Lines::send_none_kept, crate::proofs::Lines::send_some_world, crate::proofs::Lines::send_some_lines, crate::proofs::Lines::send_some_kept, crate::proofs::Lines::send_cut))]
+    #[tactic(auto, unfolding(world_spec::specs::SceneSteps::steps_to, world_spec::specs::SceneSteps::lines_in, world_spec::specs::SceneSteps::work_of), using(crate::proofs::Lines::send_none_world, crate::proofs::Lines::send_none_lines, crate::proofs::Lines::send_none_kept, crate::proofs::Lines::send_some_world, crate::proofs::Lines::send_some_lines, crate::proofs::Lines::send_some_kept, crate::proofs::Lines::send_cut))]
     fn send<R: Threads + Sync, D: Keeper, S: MakesSeals>(
         &mut self,
         rt: &R,
@@ -370,6 +378,7 @@ impl World {
         ensures kept { LeavesAs (rules_in (S.accepts sealer.now) self.old) self.old (work_of self.old (events.Send member tx.now)) (D.lists keeper.old) (D.lists keeper.new) result }
         ensures cut { OnErr result (LineCut (rules_in (S.accepts sealer.now) self.old) self.old (work_of self.old (events.Send member tx.now)) self.new.posts (D.lists keeper.old) (D.lists keeper.new)) }
         ensures books { books_in self.new ≡ books_in self.old }
+        ensures said { OnErr result (GrowsToward self.old.said self.new.said (steps_to (trust_by (S.made sealer.now) (S.accepts sealer.now)) self.old (events.Send member tx.now)).said) }
         ensures width { D.width keeper.new ≡ D.width keeper.old }
         ensures later { D.failed keeper.old ≤ D.failed keeper.new }
         ensures fault { IsErrOf result fault.KeepFault → Rose (D.failed keeper.old) (D.failed keeper.new) }
@@ -406,7 +415,7 @@ impl World {
     }
 
     /// The line `run`: lets a member run what it holds, by this many workers.
-    #[tactic(auto, unfolding(scene_spec::specs::Steps::steps_to, scene_spec::specs::Steps::lines_in, scene_spec::specs::Steps::work_of), using(crate::proofs::Texts::run_lines_is, crate::proofs::Lines::left_as))]
+    #[tactic(auto, unfolding(world_spec::specs::SceneSteps::steps_to, world_spec::specs::SceneSteps::lines_in, world_spec::specs::SceneSteps::work_of), using(crate::proofs::Texts::run_lines_is, crate::proofs::Lines::left_as))]
     fn run<R: Threads + Sync, D: Keeper, S: MakesSeals>(
         &mut self,
         rt: &R,
@@ -421,6 +430,7 @@ impl World {
         ensures kept { LeavesAs (rules_in (S.accepts sealer.now) self.old) self.old (work_of self.old (events.Run member workers)) (D.lists keeper.old) (D.lists keeper.new) result }
         ensures cut { OnErr result (LineCut (rules_in (S.accepts sealer.now) self.old) self.old (work_of self.old (events.Run member workers)) self.new.posts (D.lists keeper.old) (D.lists keeper.new)) }
         ensures books { books_in self.new ≡ books_in self.old }
+        ensures said { OnErr result (GrowsToward self.old.said self.new.said (steps_to (trust_by (S.made sealer.now) (S.accepts sealer.now)) self.old (events.Run member workers)).said) }
         ensures width { D.width keeper.new ≡ D.width keeper.old }
         ensures later { D.failed keeper.old ≤ D.failed keeper.new }
         ensures fault { IsErrOf result fault.KeepFault → Rose (D.failed keeper.old) (D.failed keeper.new) }
@@ -438,7 +448,7 @@ impl World {
     }
 
     /// The line `raw .. vote`: asks a member for its vote for what the bytes encode.
-    #[tactic(auto, unfolding(scene_spec::specs::Steps::steps_to, scene_spec::specs::Steps::lines_in, scene_spec::specs::Steps::work_of), using(crate::proofs::Lines::left_as, crate::proofs::Lines::left_on))]
+    #[tactic(auto, unfolding(world_spec::specs::SceneSteps::steps_to, world_spec::specs::SceneSteps::lines_in, world_spec::specs::SceneSteps::work_of), using(crate::proofs::Lines::left_as, crate::proofs::Lines::left_on))]
     fn raw_vote<R: Threads + Sync, D: Keeper, S: MakesSeals>(
         &mut self,
         rt: &R,
@@ -453,6 +463,7 @@ impl World {
         ensures kept { LeavesAs (rules_in (S.accepts sealer.now) self.old) self.old (work_of self.old (events.RawVote member bytes.now)) (D.lists keeper.old) (D.lists keeper.new) result }
         ensures cut { OnErr result (LineCut (rules_in (S.accepts sealer.now) self.old) self.old (work_of self.old (events.RawVote member bytes.now)) self.new.posts (D.lists keeper.old) (D.lists keeper.new)) }
         ensures books { books_in self.new ≡ books_in self.old }
+        ensures said { OnErr result (GrowsToward self.old.said self.new.said (steps_to (trust_by (S.made sealer.now) (S.accepts sealer.now)) self.old (events.RawVote member bytes.now)).said) }
         ensures width { D.width keeper.new ≡ D.width keeper.old }
         ensures later { D.failed keeper.old ≤ D.failed keeper.new }
         ensures fault { IsErrOf result fault.KeepFault → Rose (D.failed keeper.old) (D.failed keeper.new) }
@@ -467,7 +478,7 @@ impl World {
     }
 
     /// The line `raw .. hold`: hands the bytes to a member as a certificate.
-    #[tactic(auto, unfolding(scene_spec::specs::Steps::steps_to, scene_spec::specs::Steps::lines_in, scene_spec::specs::Steps::work_of), using(crate::proofs::Lines::left_as, crate::proofs::Lines::left_on))]
+    #[tactic(auto, unfolding(world_spec::specs::SceneSteps::steps_to, world_spec::specs::SceneSteps::lines_in, world_spec::specs::SceneSteps::work_of), using(crate::proofs::Lines::left_as, crate::proofs::Lines::left_on))]
     fn raw_hold<R: Threads + Sync, D: Keeper, S: MakesSeals>(
         &mut self,
         rt: &R,
@@ -482,6 +493,7 @@ impl World {
         ensures kept { LeavesAs (rules_in (S.accepts sealer.now) self.old) self.old (work_of self.old (events.RawHold member bytes.now)) (D.lists keeper.old) (D.lists keeper.new) result }
         ensures cut { OnErr result (LineCut (rules_in (S.accepts sealer.now) self.old) self.old (work_of self.old (events.RawHold member bytes.now)) self.new.posts (D.lists keeper.old) (D.lists keeper.new)) }
         ensures books { books_in self.new ≡ books_in self.old }
+        ensures said { OnErr result (GrowsToward self.old.said self.new.said (steps_to (trust_by (S.made sealer.now) (S.accepts sealer.now)) self.old (events.RawHold member bytes.now)).said) }
         ensures width { D.width keeper.new ≡ D.width keeper.old }
         ensures later { D.failed keeper.old ≤ D.failed keeper.new }
         ensures fault { IsErrOf result fault.KeepFault → Rose (D.failed keeper.old) (D.failed keeper.new) }
@@ -510,6 +522,7 @@ impl World {
         ensures kept { LeavesAs (rules_in (S.accepts sealer.now) self.old) self.old (work_of self.old event.now) (D.lists keeper.old) (D.lists keeper.new) result }
         ensures cut { OnErr result (LineCut (rules_in (S.accepts sealer.now) self.old) self.old (work_of self.old event.now) self.new.posts (D.lists keeper.old) (D.lists keeper.new)) }
         ensures books { books_in self.new ≡ books_in self.old }
+        ensures said { OnErr result (GrowsToward self.old.said self.new.said (steps_to (trust_by (S.made sealer.now) (S.accepts sealer.now)) self.old event.now).said) }
         ensures width { D.width keeper.new ≡ D.width keeper.old }
         ensures later { D.failed keeper.old ≤ D.failed keeper.new }
         ensures fault { IsErrOf result fault.KeepFault → Rose (D.failed keeper.old) (D.failed keeper.new) }

@@ -4,15 +4,14 @@ ghost use Rattle.std.specs.Prelude.{◌≡◌, IfOk, OnErr, OnOk};
 ghost use Rattle.world_spec.specs.Names.{made_named};
 ghost use Rattle.world_spec.specs.Report.{cert_lines};
 ghost use Rattle.world_spec.specs.Step.{formed};
-ghost use Rattle.scene_spec.specs.Scene.{bare_setting, bare_world};
+ghost use Rattle.world_spec.specs.Scene.{bare_setting, bare_world};
 ghost use Rattle.world_core.specs.Cuts.{still_in};
 ghost use Rattle.world_core.specs.Trusts.{trust_by};
 
 use crate::world::World;
 use report_text::{CertText, Line};
 use wire_bcs::{Encoded, OutOfMemory, Seq};
-use world_lines::{cert_lines, certify, collected_lines, is_whole};
-use world_names::MakesSeals;
+use world_lines::{MakesSeals, cert_lines, certify, collected_lines, is_whole};
 
 impl World {
     /// The line `cert`: collects the votes of the members, and forms their certificate if all agree.
@@ -26,6 +25,7 @@ impl World {
         ensures world { OnOk result (self.new ≡ record self.old { certs = (formed (bare_setting (trust_by (S.made sealer.now) (S.accepts sealer.now)) self.old) (bare_world self.old) members.now (made_named (bare_world self.old) tx.now)).certs }) }
         ensures lines { IfOk result (λ lines. lines ≡ cert_lines (bare_setting (trust_by (S.made sealer.now) (S.accepts sealer.now)) self.old) (bare_world self.old) tx.now members.now (made_named (bare_world self.old) tx.now)) }
         ensures still { OnErr result (still_in self.new ≡ still_in self.old) }
+        ensures unsaid { self.new.said ≡ self.old.said }
     {
         let Some(made) = self.directory.made(tx) else {
             return cert_lines(self.alloc, tx, CertText::NoVote { member: 0 });

@@ -4,16 +4,17 @@ ghost use Rattle.std.specs.Prelude.{◌≡◌, ◌≤◌, IfOk, IsErrOf, OnErr, 
 ghost use Rattle.outside.specs.Causes.{Rose};
 ghost use Rattle.protocol_spec.specs.Member.Calls.{closes};
 ghost use Rattle.schedule_text.specs.declared.words.Event.TheVariants as events;
-ghost use Rattle.scene_spec.specs.Posts.{posts_behind, reached_in, record_left};
-ghost use Rattle.scene_spec.specs.Scene.{bare_setting, bare_world, rules_in};
-ghost use Rattle.scene_spec.specs.Steps.{called_scene, comes_to, lines_in, steps_to, work_of};
-ghost use Rattle.scene_spec.specs.Terms.{rules_for};
+ghost use Rattle.world_spec.specs.Posts.{posts_behind, reached_in, record_left};
+ghost use Rattle.world_spec.specs.Scene.{bare_setting, bare_world, rules_in};
+ghost use Rattle.world_spec.specs.SceneSteps.{called_scene, comes_to, lines_in, steps_to, work_of};
+ghost use Rattle.world_spec.specs.Terms.{rules_for};
 ghost use Rattle.world_core.specs.declared.reply.SeatFault.TheVariants as fault;
 ghost use Rattle.world_core.specs.Cuts.{CallCut, LineCut, books_in};
 ghost use Rattle.world_core.specs.Kept.{LeavesAs};
 ghost use Rattle.world_core.specs.Replies.{Leaves};
 ghost use Rattle.world_core.specs.Texts.{close_text_by};
 ghost use Rattle.world_core.specs.Trusts.{trust_by};
+ghost use Rattle.world_lines.specs.Pushed.{GrowsToward};
 ghost use Rattle.world_spec.specs.Report.{close_reached};
 
 use crate::calls::told;
@@ -24,8 +25,7 @@ use quorum_core::Sealer;
 use report_text::{CloseText, Line};
 use std::thread::Threads;
 use wire_bcs::{OutOfMemory, Seq};
-use world_lines::close_text;
-use world_names::{Directory, MakesSeals};
+use world_lines::{Directory, MakesSeals, close_text};
 
 /// Closes the epoch of a member.
 #[tactic(auto, using(crate::proofs::Closing::close_down, crate::proofs::Closing::close_stopped, crate::proofs::Closing::close_said))]
@@ -78,6 +78,7 @@ impl World {
         ensures kept { Leaves (D.lists keeper.old) (D.lists keeper.new) member (record_left (reached_in (rules_in (S.accepts sealer.now) self.old) self.old.posts member closes)) result }
         ensures cut { OnErr result (CallCut (rules_in (S.accepts sealer.now) self.old) member closes self.old.posts self.new.posts (D.lists keeper.old) (D.lists keeper.new)) }
         ensures books { books_in self.new ≡ books_in self.old }
+        ensures unsaid { self.new.said ≡ self.old.said }
         ensures width { D.width keeper.new ≡ D.width keeper.old }
         ensures later { D.failed keeper.old ≤ D.failed keeper.new }
         ensures fault { IsErrOf result fault.KeepFault → Rose (D.failed keeper.old) (D.failed keeper.new) }
@@ -86,7 +87,7 @@ impl World {
     }
 
     /// The line `close`: closes the epoch of a member.
-    #[tactic(auto, unfolding(scene_spec::specs::Steps::steps_to, scene_spec::specs::Steps::lines_in, scene_spec::specs::Steps::work_of), using(crate::proofs::Lines::left_as, crate::proofs::Lines::left_on))]
+    #[tactic(auto, unfolding(world_spec::specs::SceneSteps::steps_to, world_spec::specs::SceneSteps::lines_in, world_spec::specs::SceneSteps::work_of), using(crate::proofs::Lines::left_as, crate::proofs::Lines::left_on))]
     pub(crate) fn close<R: Threads + Sync, D: Keeper, S: MakesSeals>(
         &mut self,
         rt: &R,
@@ -100,6 +101,7 @@ impl World {
         ensures kept { LeavesAs (rules_in (S.accepts sealer.now) self.old) self.old (work_of self.old (events.Close member)) (D.lists keeper.old) (D.lists keeper.new) result }
         ensures cut { OnErr result (LineCut (rules_in (S.accepts sealer.now) self.old) self.old (work_of self.old (events.Close member)) self.new.posts (D.lists keeper.old) (D.lists keeper.new)) }
         ensures books { books_in self.new ≡ books_in self.old }
+        ensures said { OnErr result (GrowsToward self.old.said self.new.said (steps_to (trust_by (S.made sealer.now) (S.accepts sealer.now)) self.old (events.Close member)).said) }
         ensures width { D.width keeper.new ≡ D.width keeper.old }
         ensures later { D.failed keeper.old ≤ D.failed keeper.new }
         ensures fault { IsErrOf result fault.KeepFault → Rose (D.failed keeper.old) (D.failed keeper.new) }

@@ -1,30 +1,30 @@
 //! The line by which a member says that its epoch is to end.
 
-ghost use Rattle.std.specs.Prelude.{◌≡◌, ◌∷◌, ◌++◌, [], IfOk, OnOk, map, option_map, slice_get};
+ghost use Rattle.std.specs.Prelude.{◌≡◌, ◌∷◌, ◌++◌, [], IfOk, OnErr, OnOk, map, option_map, slice_get};
 ghost use Rattle.report_text.specs.declared.lines.Line.TheVariants as line;
 ghost use Rattle.schedule_text.specs.declared.words.Event.TheVariants as events;
-ghost use Rattle.scene_spec.specs.Known.{world_with};
-ghost use Rattle.scene_spec.specs.Steps.{lines_in, seat_state, standing_at, steps_to};
-ghost use Rattle.scene_spec.specs.Terms.{rules_for};
+ghost use Rattle.world_spec.specs.Known.{world_with};
+ghost use Rattle.world_spec.specs.SceneSteps.{lines_in, seat_state, standing_at, steps_to};
+ghost use Rattle.world_spec.specs.Terms.{rules_for};
 ghost use Rattle.world_core.specs.Cuts.{still_in};
 ghost use Rattle.world_core.specs.Epochs.{end_statements, end_text_by};
 ghost use Rattle.world_core.specs.Trusts.{trust_by};
 ghost use Rattle.world_lines.specs.Answers.{stated_as};
+ghost use Rattle.world_lines.specs.Pushed.{GrowsToward};
 ghost use Rattle.world_spec.specs.Report.{end_answered};
 ghost use Rattle.world_spec.specs.World.{answered_statement, said_by};
 
 use crate::seats::Seats;
 use crate::world::World;
-use answer_types::EndRefusal;
 use chain_messages::Sealed;
+use protocol_spec::EndRefusal;
 use quorum_core::Sealer;
 use report_text::{EndText, Line};
 use std::alloc::Global;
 use wire_bcs::{OutOfMemory, Seq};
-use world_lines::{SaidBook, end_text, one_line};
-use world_names::{Directory, MakesSeals};
+use world_lines::{Directory, MakesSeals, SaidBook, end_text, one_line};
 
-/// The ending for a member's answer; the End that it says is stated.
+/// The ending for a member's answer; the End that it says is stated, or nothing where memory is refused.
 fn tell_end(
     directory: &Directory,
     said: &mut SaidBook,
@@ -33,6 +33,7 @@ fn tell_end(
 ) -> Result<EndText, OutOfMemory>
     ensures text { IfOk result (λ text. text ≡ end_answered (world_with directory.now) (stated_as answer)) }
     ensures said { OnOk result (said.new ≡ said.old ++ map (said_by member) (answered_statement (stated_as answer))) }
+    ensures unsaid { OnErr result (said.new ≡ said.old) }
 {
     let text = end_text(directory, &answer)?;
     match answer {
@@ -55,6 +56,7 @@ fn say_end<S: Sealer>(
 ) -> Result<EndText, OutOfMemory>
     ensures text { IfOk result (λ text. text ≡ end_text_by directory.now (rules_for seats.now.terms (S.accepts sealer.now)) (option_map seat_state (standing_at (slice_get seats.now.posts member)))) }
     ensures said { OnOk result (said.new ≡ said.old ++ map (said_by member) (end_statements (rules_for seats.now.terms (S.accepts sealer.now)) (option_map seat_state (standing_at (slice_get seats.now.posts member))))) }
+    ensures unsaid { OnErr result (said.new ≡ said.old) }
 {
     match seats.end(sealer, member)? {
         Some(answer) => tell_end(directory, said, member, answer),
@@ -72,7 +74,7 @@ fn end_line(alloc: Global, member: u32, text: EndText) -> Result<Seq<Line>, OutO
 
 impl World {
     /// The line `end`: a member says that its epoch is to end. It keeps no record.
-    #[tactic(auto, unfolding(scene_spec::specs::Steps::steps_to, scene_spec::specs::Steps::lines_in), using(crate::proofs::Silent::end_scene, crate::proofs::Silent::end_text_is))]
+    #[tactic(auto, unfolding(world_spec::specs::SceneSteps::steps_to, world_spec::specs::SceneSteps::lines_in), using(crate::proofs::Silent::end_scene, crate::proofs::Silent::end_text_is, crate::proofs::Stated::unsaid_on))]
     pub(crate) fn say_end<S: MakesSeals>(
         &mut self,
         sealer: &S,
@@ -81,6 +83,7 @@ impl World {
         ensures world { OnOk result (self.new ≡ steps_to (trust_by (S.made sealer.now) (S.accepts sealer.now)) self.old (events.End member)) }
         ensures lines { IfOk result (λ lines. lines ≡ lines_in (trust_by (S.made sealer.now) (S.accepts sealer.now)) self.old (events.End member)) }
         ensures still { still_in self.new ≡ still_in self.old }
+        ensures said { OnErr result (GrowsToward self.old.said self.new.said (steps_to (trust_by (S.made sealer.now) (S.accepts sealer.now)) self.old (events.End member)).said) }
     {
         let text = say_end(&self.seats, &mut self.said, &self.directory, sealer, member)?;
         end_line(self.alloc, member, text)

@@ -4,17 +4,17 @@ ghost use Rattle.std.specs.Prelude.{◌≡◌, ◌<◌, ◌≤◌, IfOk, IsErrOf
 ghost use Rattle.outside.specs.Causes.{Rose};
 ghost use Rattle.protocol_spec.specs.Member.Calls.{closes, due, sees, turns};
 ghost use Rattle.protocol_spec.specs.Member.Member.{fork_of};
-ghost use Rattle.scene_spec.specs.Seats.{bare_rules, rules_of_seat};
-ghost use Rattle.scene_spec.specs.Posts.{seat_behind};
+ghost use Rattle.world_spec.specs.Seats.{bare_rules, rules_of_seat};
+ghost use Rattle.world_spec.specs.Posts.{seat_behind};
 ghost use Rattle.validator_core.specs.Seats.{Fell};
 ghost use Rattle.world_core.specs.declared.reply.SeatFault.TheVariants as faults;
 ghost use Rattle.world_core.specs.Replies.{Leaves, SaysClose, SaysSee, SaysTurn, close_fault, see_fault, turn_fault};
 
 use crate::reply::SeatFault;
 use crate::requests::Asks;
-use answer_types::{CloseRefusal, SeeRefusal, Seen, TurnRefusal};
 use digest_core::Digest;
 use outside::Keeper;
+use protocol_spec::{CloseRefusal, SeeRefusal, Seen, TurnRefusal};
 use quorum_core::Sealer;
 use std::thread::Threads;
 use validator_core::Validator;
@@ -95,7 +95,7 @@ pub fn ask_see<D: Keeper, S: Sealer>(
 #[derive(Clone, Copy)]
 pub(crate) struct CloseRequest;
 
-#[tactic(auto, using(scene_spec::proofs::RulesAside::close_answer_alike, scene_spec::proofs::RulesAside::close_due_alike, scene_spec::proofs::RulesAside::close_called_alike))]
+#[tactic(auto, using(world_spec::proofs::RulesAside::close_answer_alike, world_spec::proofs::RulesAside::close_due_alike, world_spec::proofs::RulesAside::close_called_alike))]
 impl Asks for CloseRequest {
     type Answer = Result<bool, CloseRefusal>;
 
@@ -154,7 +154,7 @@ pub fn ask_close<D: Keeper>(
 #[derive(Clone, Copy)]
 pub(crate) struct TurnRequest;
 
-#[tactic(auto, using(scene_spec::proofs::RulesAside::turn_answer_alike, scene_spec::proofs::RulesAside::turn_due_alike, scene_spec::proofs::RulesAside::turn_called_alike))]
+#[tactic(auto, using(world_spec::proofs::RulesAside::turn_answer_alike, world_spec::proofs::RulesAside::turn_due_alike, world_spec::proofs::RulesAside::turn_called_alike))]
 impl Asks for TurnRequest {
     type Answer = Result<Seq<Digest>, TurnRefusal>;
 

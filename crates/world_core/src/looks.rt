@@ -3,7 +3,7 @@
 ghost use Rattle.std.specs.Prelude.{◌≡◌, IfOk, IfSome, Some, option_copied, option_map, slice_get};
 ghost use Rattle.chain_messages.specs.Messages as messages;
 ghost use Rattle.chain_types.specs.Transactions as transactions;
-ghost use Rattle.scene_spec.specs.Starts.{AreApart};
+ghost use Rattle.world_spec.specs.Starts.{AreApart};
 ghost use Rattle.validator_core.specs.Calls.{vote_ended};
 ghost use Rattle.validator_core.specs.Seats.{answered};
 ghost use Rattle.world_core.specs.Crews.{IsPlaced, honest_at, honest_post};
@@ -13,17 +13,16 @@ ghost use Rattle.world_lines.specs.Answers.{vote_as};
 ghost use Rattle.world_spec.specs.Names.{cert_in};
 
 use crate::world::World;
-use answer_types::{VoteRefusal, Voted};
 use chain_messages::Certificate;
 use chain_types::{Object, SignedTx, Transaction};
 use checkpoint_core::Checkpoint;
 use digest_core::Digest;
+use protocol_spec::{VoteRefusal, Voted};
 use quorum_core::Committee;
 use report_text::Line;
 use validator_core::Validator;
 use wire_bcs::{OutOfMemory, Seq};
-use world_lines::{shown_lines, vote_text};
-use world_names::Directory;
+use world_lines::{Directory, shown_lines, vote_text};
 
 impl World {
     /// The committee, by the stakes of the set-up. Takes no memory.

@@ -1,26 +1,28 @@
 //! Lines that order entries.
 
-ghost use Rattle.std.specs.Prelude.{◌≡◌, ◌∷◌, [], IfOk, OnErr, OnOk, Some, length};
+ghost use Rattle.std.specs.Prelude.{◌≡◌, ◌∷◌, ◌++◌, [], IfOk, OnErr, OnOk, Some, length};
 ghost use Rattle.chain_messages.specs.declared.messages.Entry.TheVariants as entry;
 ghost use Rattle.chain_messages.specs.declared.messages.Statement.TheVariants as statement;
 ghost use Rattle.report_text.specs.declared.lines.Line.TheVariants as line;
 ghost use Rattle.report_text.specs.declared.lines.OrderEndText.TheVariants as order_end_text;
-ghost use Rattle.scene_spec.specs.Scene.{bare_setting, bare_world};
-ghost use Rattle.scene_spec.specs.Steps.{with_order};
-ghost use Rattle.scene_spec.specs.Worlds.{AreKeepable};
+ghost use Rattle.schedule_text.specs.declared.words.Event.TheVariants as events;
+ghost use Rattle.world_spec.specs.Scene.{bare_setting, bare_world};
+ghost use Rattle.world_spec.specs.SceneSteps.{steps_to, with_order};
+ghost use Rattle.world_spec.specs.SceneWorlds.{AreKeepable};
 ghost use Rattle.world_core.specs.Cuts.{SeenCut, still_in};
 ghost use Rattle.world_core.specs.Trusts.{trust_by};
+ghost use Rattle.world_lines.specs.Pushed.{GrowsToward};
 ghost use Rattle.world_spec.specs.Names.{cert_named};
 ghost use Rattle.world_spec.specs.Report.{order_end_said, order_said};
 ghost use Rattle.world_spec.specs.Step.{appended_entry, end_ordered, open_entries, ordered, ordered_end, says};
+ghost use Rattle.world_spec.specs.World.{said_by};
 
 use crate::votes::is_honest;
 use crate::world::World;
-use chain_messages::{Certificate, Entry, Statement};
+use chain_messages::{Entry, Statement};
 use report_text::{Line, OrderEndText, OrderText};
-use wire_bcs::{Duplicate, OutOfMemory, Seq};
-use world_lines::{one_line, order_and_rise, order_end_line, order_line, sealed_end};
-use world_names::MakesSeals;
+use wire_bcs::{OutOfMemory, Seq};
+use world_lines::{MakesSeals, one_line, order_and_rise, order_end_line, order_line, sealed_end};
 
 impl World {
     /// Each entry that was ordered can be kept, as the book of sequences has it. Nothing runs.
@@ -32,11 +34,12 @@ impl World {
     }
 
     /// The line `order T`: orders the certificate that was formed last for this name, if it is of the open epoch.
-    #[tactic(auto, using(crate::proofs::Ordered::orders_none, crate::proofs::Ordered::orders_late, crate::proofs::Ordered::orders_one, crate::proofs::Ordered::order_kept, crate::proofs::Ordered::short_cert))]
+    #[tactic(auto, using(crate::proofs::Ordered::orders_none, crate::proofs::Ordered::orders_late, crate::proofs::Ordered::orders_one, crate::proofs::Ordered::order_kept))]
     pub(crate) fn order_cert(&mut self, tx: &[u8]) -> Result<Seq<Line>, OutOfMemory>
         ensures world { OnOk result (self.new ≡ with_order self.old (ordered (bare_world self.old) (cert_named (bare_world self.old) tx.now))) }
         ensures lines { IfOk result (λ lines. lines ≡ line.Order tx.now (order_said (bare_world self.old) (cert_named (bare_world self.old) tx.now)) ∷ []) }
         ensures still { OnErr result (still_in self.new ≡ still_in self.old) }
+        ensures unsaid { self.new.said ≡ self.old.said }
     {
         let Some(cert) = self.certs.last_named(tx) else {
             return order_line(self.alloc, tx, OrderText::NoCertificate);
@@ -51,7 +54,7 @@ impl World {
                 entry: self.order.len(),
             },
         )?;
-        self.order.push(&Entry::Cert(cert.value().copy()?))?;
+        self.order.push_cert(cert)?;
         Ok(lines)
     }
 
@@ -61,6 +64,7 @@ impl World {
         ensures world { OnOk result (self.new ≡ with_order self.old (appended_entry (bare_world self.old) entry.Commit)) }
         ensures lines { IfOk result (λ lines. lines ≡ line.OrderCommit (length (open_entries (bare_world self.old))) ∷ []) }
         ensures still { OnErr result (still_in self.new ≡ still_in self.old) }
+        ensures unsaid { self.new.said ≡ self.old.said }
     {
         let entry = self.order.len();
         let lines = one_line(self.alloc, Line::OrderCommit { entry })?;
@@ -79,6 +83,7 @@ impl World {
         ensures world { OnOk result (self.new ≡ with_order self.old (ordered_end (bare_setting (trust_by (S.made sealer.now) (S.accepts sealer.now)) self.old) (bare_world self.old) member self.old.epoch)) }
         ensures lines { IfOk result (λ lines. lines ≡ line.OrderEnd member (order_end_text.Entry (length (open_entries (bare_world self.old)))) ∷ []) }
         ensures still { OnErr result (SeenCut still_in (trust_by (S.made sealer.now) (S.accepts sealer.now)) self.old (Some member) self.new) }
+        ensures unsaid { self.new.said ≡ self.old.said }
     {
         let text = OrderEndText::Entry {
             entry: self.order.len(),
@@ -90,7 +95,7 @@ impl World {
     }
 
     /// A faulty member states an End of the open epoch, which is ordered.
-    #[tactic(auto, using(crate::proofs::OrderedEnds::end_unsaid, crate::proofs::OrderedEnds::end_stated))]
+    #[tactic(auto, using(crate::proofs::OrderedEnds::end_unsaid, crate::proofs::OrderedEnds::end_stated, world_lines::proofs::Growing::none_added, crate::proofs::Stated::all_added_on))]
     fn false_end<S: MakesSeals>(
         &mut self,
         sealer: &S,
@@ -99,6 +104,7 @@ impl World {
         ensures world { OnOk result (self.new ≡ with_order self.old (ordered_end (bare_setting (trust_by (S.made sealer.now) (S.accepts sealer.now)) self.old) (says (bare_world self.old) member (statement.End self.old.epoch)) member self.old.epoch)) }
         ensures lines { IfOk result (λ lines. lines ≡ line.OrderEnd member (order_end_text.Entry (length (open_entries (bare_world self.old)))) ∷ []) }
         ensures still { OnErr result (SeenCut still_in (trust_by (S.made sealer.now) (S.accepts sealer.now)) self.old (Some member) self.new) }
+        ensures said { OnErr result (GrowsToward self.old.said self.new.said (self.old.said ++ said_by member (statement.End self.old.epoch) ∷ [])) }
     {
         let epoch = self.order.epoch();
         self.said.say(member, Statement::End { epoch })?;
@@ -108,7 +114,7 @@ impl World {
     /// The line `order end`: orders the last End of an honest member, if it is of the open epoch; a faulty member
     /// states one of the open epoch first. Another epoch opens if the open one has ended then. Refusals are those of
     /// [`World::append_end`]; what a faulty member states may stand.
-    #[tactic(auto, using(crate::proofs::OrderedEnds::end_undone))]
+    #[tactic(auto, using(crate::proofs::OrderedEnds::end_undone, crate::proofs::Stated::unsaid_on))]
     pub(crate) fn order_end<S: MakesSeals>(
         &mut self,
         sealer: &S,
@@ -117,6 +123,7 @@ impl World {
         ensures world { OnOk result (self.new ≡ with_order self.old (end_ordered (bare_setting (trust_by (S.made sealer.now) (S.accepts sealer.now)) self.old) (bare_world self.old) member)) }
         ensures lines { IfOk result (λ lines. lines ≡ line.OrderEnd member (order_end_said (bare_world self.old) member) ∷ []) }
         ensures still { OnErr result (SeenCut still_in (trust_by (S.made sealer.now) (S.accepts sealer.now)) self.old (Some member) self.new) }
+        ensures said { OnErr result (GrowsToward self.old.said self.new.said (steps_to (trust_by (S.made sealer.now) (S.accepts sealer.now)) self.old (events.OrderEnd member)).said) }
     {
         if !is_honest(self.seats.flags(), member) {
             return self.false_end(sealer, member);

@@ -2,20 +2,20 @@
 
 ghost use Rattle.std.specs.Prelude.{◌≡◌, ◌∷◌, [], IfOk, OnErr, OnOk, slice_get, true};
 ghost use Rattle.report_text.specs.declared.lines.Line.TheVariants as line;
-ghost use Rattle.world_names.specs.Lines.{line_of};
-ghost use Rattle.scene_spec.specs.Posts.{armed_at};
-ghost use Rattle.scene_spec.specs.Steps.{lines_in, standing_at, steps_to, with_tx};
+ghost use Rattle.world_lines.specs.Lines.{line_of};
+ghost use Rattle.world_spec.specs.Posts.{armed_at};
+ghost use Rattle.world_spec.specs.SceneSteps.{lines_in, standing_at, steps_to, with_tx};
 ghost use Rattle.world_core.specs.Cuts.{SeenCut, orders_end, still_in};
 ghost use Rattle.world_core.specs.Kept.{is_quiet};
 ghost use Rattle.world_core.specs.Texts.{show_by};
 ghost use Rattle.world_core.specs.Trusts.{trust_by};
+ghost use Rattle.world_lines.specs.Pushed.{GrowsToward};
 
 use crate::world::World;
 use report_text::{Line, ShowText};
 use schedule_text::Event;
 use wire_bcs::{OutOfMemory, Seq};
-use world_lines::{one_line, shown_lines};
-use world_names::{MakeRefusal, MakesSeals, TxLine, make};
+use world_lines::{MakeRefusal, MakesSeals, TxLine, make, one_line, shown_lines};
 
 impl World {
     /// The line `tx`: makes the transaction of the words. One that cannot be encoded counts as running out of memory; no
@@ -29,6 +29,7 @@ impl World {
         ensures world { OnOk result (self.new ≡ with_tx (trust_by (S.made sealer.now) (S.accepts sealer.now)) self.old (line_of words.now)) }
         ensures lines { IfOk result (λ lines. lines ≡ line.TxMade words.now.name.now ∷ []) }
         ensures still { OnErr result (still_in self.new ≡ still_in self.old) }
+        ensures unsaid { self.new.said ≡ self.old.said }
     {
         let made = match make(self.alloc, &self.directory, &self.seats, sealer, words) {
             Ok(made) => made,
@@ -45,6 +46,7 @@ impl World {
         ensures world { OnOk result (self.new ≡ record self.old { posts = armed_at self.old.posts member kept }) }
         ensures lines { IfOk result (λ lines. lines ≡ line.Stop member kept ∷ []) }
         ensures still { OnErr result (still_in self.new ≡ still_in self.old) }
+        ensures unsaid { self.new.said ≡ self.old.said }
     {
         let line = Line::Stop {
             member: member as u64,
@@ -74,9 +76,9 @@ impl World {
         }
     }
 
-    /// Runs a line that touches no record. After a refusal all is as before except what was stated; the End of an
-    /// `order end` was ordered or not.
-    #[tactic(auto, unfolding(scene_spec::specs::Steps::steps_to, scene_spec::specs::Steps::lines_in), using(crate::proofs::Texts::show_is, crate::proofs::Cuts::on_err))]
+    /// Runs a line that touches no record. After a refusal all is as before, except that what the line states may stand, and
+    /// that the End of an `order end` was ordered or not.
+    #[tactic(auto, unfolding(world_spec::specs::SceneSteps::steps_to, world_spec::specs::SceneSteps::lines_in), using(crate::proofs::Texts::show_is, crate::proofs::Cuts::on_err, crate::proofs::Stated::unsaid_on, crate::proofs::Stated::unsaid_then))]
     pub(crate) fn run_quiet<S: MakesSeals>(
         &mut self,
         sealer: &S,
@@ -86,6 +88,7 @@ impl World {
         ensures world { OnOk result (self.new ≡ steps_to (trust_by (S.made sealer.now) (S.accepts sealer.now)) self.old event.now) }
         ensures lines { IfOk result (λ lines. lines ≡ lines_in (trust_by (S.made sealer.now) (S.accepts sealer.now)) self.old event.now) }
         ensures still { OnErr result (SeenCut still_in (trust_by (S.made sealer.now) (S.accepts sealer.now)) self.old (orders_end event.now) self.new) }
+        ensures said { OnErr result (GrowsToward self.old.said self.new.said (steps_to (trust_by (S.made sealer.now) (S.accepts sealer.now)) self.old event.now).said) }
     {
         match event {
             Event::Tx {

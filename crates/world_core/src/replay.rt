@@ -3,7 +3,7 @@
 ghost use Rattle.std.specs.Prelude.{◌≡◌, ◌<◌, ◌≤◌, ℕ, IfOk, IsErrOf};
 ghost use Rattle.outside.specs.Causes.{Rose};
 ghost use Rattle.outside.specs.Lists.{KeepsJournals};
-ghost use Rattle.scene_spec.specs.Scene.{rules_in};
+ghost use Rattle.world_spec.specs.Scene.{rules_in};
 ghost use Rattle.world_core.specs.Replays.{IsReplayed};
 ghost use Rattle.world_core.specs.SeatRestarts.{HasBadRecord};
 ghost use Rattle.world_core.specs.declared.reply.RestartFault.TheVariants as fault;

@@ -6,8 +6,8 @@ ghost use Rattle.outside.specs.Causes.{Rose};
 ghost use Rattle.protocol_spec.specs.Chain.Certificates.{Rules};
 ghost use Rattle.protocol_spec.specs.Member.Member.{Member, fork_of};
 ghost use Rattle.protocol_spec.specs.Member.Calls.{Call, due, holds, runs, votes};
-ghost use Rattle.scene_spec.specs.Seats.{bare_rules, rules_of_seat};
-ghost use Rattle.scene_spec.specs.Posts.{seat_behind};
+ghost use Rattle.world_spec.specs.Seats.{bare_rules, rules_of_seat};
+ghost use Rattle.world_spec.specs.Posts.{seat_behind};
 ghost use Rattle.validator_core.specs.Calls.{origins_in};
 ghost use Rattle.validator_core.specs.Seats.{Fell};
 ghost use Rattle.world_core.specs.declared.reply.SeatFault.TheVariants as faults;
@@ -211,7 +211,7 @@ pub(crate) struct RunRequest {
     ghost some: { (0 < workers) × (workers ≤ 16) },
 }
 
-#[tactic(auto, using(scene_spec::proofs::RulesAside::run_answer_alike, scene_spec::proofs::RulesAside::run_due_alike, scene_spec::proofs::RulesAside::run_called_alike))]
+#[tactic(auto, using(world_spec::proofs::RulesAside::run_answer_alike, world_spec::proofs::RulesAside::run_due_alike, world_spec::proofs::RulesAside::run_called_alike))]
 impl Asks for RunRequest {
     type Answer = Result<Ran, RunRefusal>;
 

@@ -14,8 +14,7 @@ use crate::world::{World, WorldFault};
 use outside::Keeper;
 use report_text::{Line, RestartText};
 use wire_bcs::Seq;
-use world_lines::one_line;
-use world_names::MakesSeals;
+use world_lines::{MakesSeals, one_line};
 
 /// The line of a member that started from so many records.
 fn restart_line(member: u32, count: u64) -> Line

@@ -2,11 +2,11 @@
 
 ghost use Rattle.std.specs.Prelude.{◌≡◌, ◌<◌, ◌≤◌, IfOk, IsErrOf, None, Some, if◌then◌else◌, is_some, option_and_then, option_copied, true};
 ghost use Rattle.outside.specs.Causes.{Rose};
-ghost use Rattle.scene_spec.specs.Seats.{Seated};
-ghost use Rattle.scene_spec.specs.Terms.{rules_for};
+ghost use Rattle.world_spec.specs.Seats.{Seated};
+ghost use Rattle.world_spec.specs.Terms.{rules_for};
 ghost use Rattle.world_spec.specs.Step.{executed_digest};
-ghost use Rattle.scene_spec.specs.Posts.{arming, reached_post, record_left};
-ghost use Rattle.scene_spec.specs.Steps.{held_by};
+ghost use Rattle.world_spec.specs.Posts.{arming, reached_post, record_left};
+ghost use Rattle.world_spec.specs.SceneSteps.{held_by};
 ghost use Rattle.world_core.specs.declared.reply.SeatFault.TheVariants as faults;
 ghost use Rattle.world_core.specs.Crews.{IsAble, IsPlaced, PostAfter, fallen, honest_at};
 ghost use Rattle.world_core.specs.Replies.{Leaves, Replies};
@@ -34,7 +34,7 @@ pub(crate) struct Seat {
 }
 
 impl Model for Seat {
-    ghost use Rattle.scene_spec.specs.Posts.{Post};
+    ghost use Rattle.world_spec.specs.Posts.{Post};
 
     ghost Value = { Post };
 

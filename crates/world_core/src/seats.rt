@@ -3,11 +3,11 @@
 ghost use Rattle.std.specs.Prelude.{◌≡◌, ◌<◌, ◌≤◌, ◌^◌, ℕ, [], IfOk, IsErrOf, OnErr, OnOk, Some, is_ok, is_some, option_copied, option_map, length, slice_get, true};
 ghost use Rattle.outside.specs.Causes.{Rose};
 ghost use Rattle.outside.specs.Lists.{KeepsJournals};
-ghost use Rattle.scene_spec.specs.Terms.{rules_for};
+ghost use Rattle.world_spec.specs.Terms.{rules_for};
 ghost use Rattle.protocol_spec.specs.Member.Calls.{ack_answer, closes, end_answer, holds, runs, sees, turns, votes};
-ghost use Rattle.scene_spec.specs.Starts.{AreApart, started};
-ghost use Rattle.scene_spec.specs.Posts.{armed_at, new_posts, posts_behind, reached_in, record_left};
-ghost use Rattle.scene_spec.specs.Steps.{held_in, says_in, seat_state, standing_at};
+ghost use Rattle.world_spec.specs.Starts.{AreApart, started};
+ghost use Rattle.world_spec.specs.Posts.{armed_at, new_posts, posts_behind, reached_in, record_left};
+ghost use Rattle.world_spec.specs.SceneSteps.{held_in, says_in, seat_state, standing_at};
 ghost use Rattle.world_core.specs.declared.reply.SeatFault.TheVariants as faults;
 ghost use Rattle.world_core.specs.declared.reply.RestartFault.TheVariants as restart_faults;
 ghost use Rattle.world_core.specs.Crews.{IsAble, IsPlaced, PostsAfter, epoch_of, fallen_at, honest_at, honest_flags, honest_post, shown_of};
@@ -24,12 +24,12 @@ use crate::requests::{Asks, HoldRequest, RunRequest, VoteRequest};
 use crate::seat::Seat;
 use crate::starts::{records_of, start_new};
 use crate::terms::Terms;
-use answer_types::{AckRefusal, EndRefusal, SeeRefusal, Seen, TurnRefusal};
 use chain_messages::Sealed;
 use chain_types::{Object, ObjectKey};
 use dag_pool::OpenGate;
 use digest_core::Digest;
 use outside::{Keeper, OutFault};
+use protocol_spec::{AckRefusal, EndRefusal, SeeRefusal, Seen, TurnRefusal};
 use quorum_core::{Committee, Sealer};
 use std::alloc::Global;
 use std::marker::Model;
@@ -38,7 +38,7 @@ use validator_core::{
     CloseRefusal, HoldRefusal, Ran, RunRefusal, StartRefusal, Validator, VoteRefusal, Voted,
 };
 use wire_bcs::{OutOfMemory, Seq};
-use world_names::HeldDigests;
+use world_lines::HeldDigests;
 
 /// The members of a committee. Contracts see its terms, and the members as the definition's posts.
 #[derive(Drop)]

@@ -6,11 +6,11 @@ ghost use Rattle.protocol_spec.specs.Member.Calls.{sees};
 ghost use Rattle.report_text.specs.declared.lines.Line.TheVariants as line;
 ghost use Rattle.report_text.specs.declared.lines.SeeText.TheVariants as see_text;
 ghost use Rattle.schedule_text.specs.declared.words.Event.TheVariants as events;
-ghost use Rattle.scene_spec.specs.Known.{setting_staked, world_with};
-ghost use Rattle.scene_spec.specs.Posts.{posts_behind, reached_in, record_left, stated_in};
-ghost use Rattle.scene_spec.specs.Scene.{bare_world, rules_in};
-ghost use Rattle.scene_spec.specs.Steps.{call_lines_in, called_if, entries_lines_in, left_if, lines_in, next_on, sees_left, sees_to, steps_to, work_of};
-ghost use Rattle.scene_spec.specs.Terms.{rules_for};
+ghost use Rattle.world_spec.specs.Known.{setting_staked, world_with};
+ghost use Rattle.world_spec.specs.Posts.{posts_behind, reached_in, record_left, stated_in};
+ghost use Rattle.world_spec.specs.Scene.{bare_world, rules_in};
+ghost use Rattle.world_spec.specs.SceneSteps.{call_lines_in, called_if, entries_lines_in, left_if, lines_in, next_on, sees_left, sees_to, steps_to, work_of};
+ghost use Rattle.world_spec.specs.Terms.{rules_for};
 ghost use Rattle.world_core.specs.declared.reply.SeatFault.TheVariants as fault;
 ghost use Rattle.world_core.specs.Cuts.{CallCut, EntriesCut, LineCut, NextCut, books_in};
 ghost use Rattle.world_core.specs.Kept.{LeavesAs};
@@ -18,6 +18,7 @@ ghost use Rattle.world_core.specs.Replies.{Leaves};
 ghost use Rattle.world_core.specs.Sees.{LeavesAll, next_by, see_lines_by};
 ghost use Rattle.world_core.specs.Stays.{Stays};
 ghost use Rattle.world_core.specs.Trusts.{trust_by};
+ghost use Rattle.world_lines.specs.Pushed.{GrowsToward};
 ghost use Rattle.world_spec.specs.Names.{tx_name};
 ghost use Rattle.world_spec.specs.Report.{entry_lines};
 ghost use Rattle.world_spec.specs.Step.{entries_left};
@@ -26,20 +27,20 @@ ghost use Rattle.world_spec.specs.World.{built_statements, said_by};
 use crate::calls::told;
 use crate::world::World;
 use crate::{Reply, SeatFault, Seats};
-use answer_types::{SeeRefusal, Seen};
 use digest_core::Digest;
 use outside::Keeper;
+use protocol_spec::{SeeRefusal, Seen};
 use quorum_core::{Committee, Sealer};
 use report_text::{EntryText, Line, SeeText};
 use std::alloc::Global;
 use std::thread::Threads;
 use validator_core::Validator;
 use wire_bcs::{OutOfMemory, Seq};
-use world_lines::{OrderBook, SaidBook, add_entry_lines, one_line, tx_text};
-use world_names::{Directory, MakesSeals};
+use world_lines::{Directory, MakesSeals, OrderBook, SaidBook, add_entry_lines, one_line, tx_text};
 
 /// Adds the lines for a member's answer to an entry, and says whether the line goes on after it; the checkpoints that
-/// the entry completed are stated.
+/// the entry completed are stated, and only the first of them, or none, where memory is refused.
+#[tactic(auto, using(world_lines::proofs::Growing::none_added, crate::proofs::Stated::some_said))]
 fn tell_entry(
     directory: &Directory,
     committee: &Committee,
@@ -52,6 +53,7 @@ fn tell_entry(
     ensures lines { OnOk result (lines.new ≡ lines.old ++ (entry_lines (setting_staked committee.now directory.now) (world_with directory.now) member number answer.now).0) }
     ensures goes { IfOk result (λ goes. goes ≡ (entry_lines (setting_staked committee.now directory.now) (world_with directory.now) member number answer.now).1) }
     ensures said { OnOk result (said.new ≡ said.old ++ map (said_by member) (built_statements answer.now)) }
+    ensures grew { OnErr result (GrowsToward said.old said.new (said.old ++ map (said_by member) (built_statements answer.now))) }
 {
     let goes = add_entry_lines(directory, committee, lines, member, number, answer)?;
     if let Ok(seen) = answer {
@@ -99,6 +101,7 @@ fn see<R: Threads + Sync, D: Keeper, S: Sealer>(
     ensures lines { OnOk result (lines.new ≡ lines.old ++ (see_lines_by directory.now (rules_for seats.old.terms (S.accepts sealer.now)) member number bytes.now (reached_in (rules_for seats.old.terms (S.accepts sealer.now)) seats.old.posts member (sees number bytes.now))).0) }
     ensures goes { IfOk result (λ goes. goes ≡ (see_lines_by directory.now (rules_for seats.old.terms (S.accepts sealer.now)) member number bytes.now (reached_in (rules_for seats.old.terms (S.accepts sealer.now)) seats.old.posts member (sees number bytes.now))).1) }
     ensures said { OnOk result (said.new ≡ said.old ++ map (said_by member) (stated_in (rules_for seats.old.terms (S.accepts sealer.now)) (sees number bytes.now) (reached_in (rules_for seats.old.terms (S.accepts sealer.now)) seats.old.posts member (sees number bytes.now)))) }
+    ensures grew { OnErr result (GrowsToward said.old said.new (said.old ++ map (said_by member) (stated_in (rules_for seats.old.terms (S.accepts sealer.now)) (sees number bytes.now) (reached_in (rules_for seats.old.terms (S.accepts sealer.now)) seats.old.posts member (sees number bytes.now))))) }
     ensures posts { OnOk result (seats.new.posts ≡ posts_behind (rules_for seats.old.terms (S.accepts sealer.now)) seats.old.posts member (sees number bytes.now)) }
     ensures terms { seats.new.terms ≡ seats.old.terms }
     ensures count { length seats.new.posts ≡ length seats.old.posts }
@@ -176,6 +179,7 @@ impl World {
         ensures stay { OnOk result (Stays self.old self.new) }
         ensures cut { OnErr result (NextCut (rules_in (S.accepts sealer.now) self.old) self.old member (next_on self.old member) self.new.posts (D.lists keeper.old) (D.lists keeper.new)) }
         ensures books { books_in self.new ≡ books_in self.old }
+        ensures said { OnErr result (GrowsToward self.old.said self.new.said (called_if (rules_in (S.accepts sealer.now) self.old) self.old member (next_on self.old member)).said) }
         ensures width { D.width keeper.new ≡ D.width keeper.old }
         ensures later { D.failed keeper.old ≤ D.failed keeper.new }
         ensures fault { IsErrOf result fault.KeepFault → Rose (D.failed keeper.old) (D.failed keeper.new) }
@@ -215,6 +219,7 @@ impl World {
         ensures kept { LeavesAll (D.lists keeper.old) (D.lists keeper.new) member (sees_left (rules_in (S.accepts sealer.now) self.old) count self.old member) result }
         ensures cut { OnErr result (EntriesCut (rules_in (S.accepts sealer.now) self.old) member count self.old self.new.posts (D.lists keeper.old) (D.lists keeper.new)) }
         ensures books { books_in self.new ≡ books_in self.old }
+        ensures said { OnErr result (GrowsToward self.old.said self.new.said (sees_to (rules_in (S.accepts sealer.now) self.old) count self.old member).said) }
         ensures width { D.width keeper.new ≡ D.width keeper.old }
         ensures later { D.failed keeper.old ≤ D.failed keeper.new }
         ensures fault { IsErrOf result fault.KeepFault → Rose (D.failed keeper.old) (D.failed keeper.new) }
@@ -265,7 +270,7 @@ impl World {
     }
 
     /// The line `see`: hands a member the next entries of its sequence, this many at most.
-    #[tactic(auto, unfolding(scene_spec::specs::Steps::steps_to, scene_spec::specs::Steps::lines_in, scene_spec::specs::Steps::work_of), using(crate::proofs::SeeLines::down_world, crate::proofs::SeeLines::down_lines, crate::proofs::SeeLines::down_kept, crate::proofs::SeeLines::halted_world, crate::proofs::SeeLines::halted_lines, crate::proofs::SeeLines::halted_kept, crate::proofs::SeeLines::taken_world, crate::proofs::SeeLines::taken_kept, crate::proofs::SeeLines::taken_cut, crate::proofs::SeeLines::nothing_lines, crate::proofs::SeeLines::taken_lines))]
+    #[tactic(auto, unfolding(world_spec::specs::SceneSteps::steps_to, world_spec::specs::SceneSteps::lines_in, world_spec::specs::SceneSteps::work_of), using(crate::proofs::SeeLines::down_world, crate::proofs::SeeLines::down_lines, crate::proofs::SeeLines::down_kept, crate::proofs::SeeLines::halted_world, crate::proofs::SeeLines::halted_lines, crate::proofs::SeeLines::halted_kept, crate::proofs::SeeLines::taken_world, crate::proofs::SeeLines::taken_kept, crate::proofs::SeeLines::taken_cut, crate::proofs::SeeLines::nothing_lines, crate::proofs::SeeLines::taken_lines))]
     pub(crate) fn see<R: Threads + Sync, D: Keeper, S: MakesSeals>(
         &mut self,
         rt: &R,
@@ -280,6 +285,7 @@ impl World {
         ensures kept { LeavesAs (rules_in (S.accepts sealer.now) self.old) self.old (work_of self.old (events.See member entries)) (D.lists keeper.old) (D.lists keeper.new) result }
         ensures cut { OnErr result (LineCut (rules_in (S.accepts sealer.now) self.old) self.old (work_of self.old (events.See member entries)) self.new.posts (D.lists keeper.old) (D.lists keeper.new)) }
         ensures books { books_in self.new ≡ books_in self.old }
+        ensures said { OnErr result (GrowsToward self.old.said self.new.said (steps_to (trust_by (S.made sealer.now) (S.accepts sealer.now)) self.old (events.See member entries)).said) }
         ensures width { D.width keeper.new ≡ D.width keeper.old }
         ensures later { D.failed keeper.old ≤ D.failed keeper.new }
         ensures fault { IsErrOf result fault.KeepFault → Rose (D.failed keeper.old) (D.failed keeper.new) }

@@ -5,8 +5,8 @@ ghost use Rattle.outside.specs.Causes.{Rose};
 ghost use Rattle.outside.specs.Lists.{KeepsJournals};
 ghost use Rattle.outside.specs.declared.faults.OutFault.TheVariants as out;
 ghost use Rattle.protocol_spec.specs.Member.Member.{fresh};
-ghost use Rattle.scene_spec.specs.Starts.{AreApart};
-ghost use Rattle.scene_spec.specs.Posts.{seat_at};
+ghost use Rattle.world_spec.specs.Starts.{AreApart};
+ghost use Rattle.world_spec.specs.Posts.{seat_at};
 ghost use Rattle.world_core.specs.SeatRestarts.{IsJournal};
 
 use crate::terms::Terms;
@@ -18,7 +18,7 @@ use validator_core::{StartRefusal, Validator};
 use wire_bcs::{OutOfMemory, Seq};
 
 /// A new member.
-#[tactic(auto, unfolding(scene_spec::specs::Starts::started))]
+#[tactic(auto, unfolding(world_spec::specs::Starts::started))]
 pub(crate) fn start_new<S: Sealer>(
     alloc: Global,
     member: u32,

@@ -2,15 +2,16 @@
 
 ghost use Rattle.std.specs.Prelude.{◌≡◌, ◌≤◌, ℕ, IfOk, IsErrOf, OnErr, OnOk, false, length, true};
 ghost use Rattle.outside.specs.Causes.{Rose};
-ghost use Rattle.scene_spec.specs.Scene.{rules_in};
-ghost use Rattle.scene_spec.specs.Steps.{lines_in, steps_to, work_of};
-ghost use Rattle.scene_spec.specs.Worlds.{AreKeepable, is_restart};
+ghost use Rattle.world_spec.specs.Scene.{rules_in};
+ghost use Rattle.world_spec.specs.SceneSteps.{lines_in, steps_to, work_of};
+ghost use Rattle.world_spec.specs.SceneWorlds.{AreKeepable, is_restart};
 ghost use Rattle.world_core.specs.declared.world.WorldFault.TheVariants as fault;
 ghost use Rattle.world_core.specs.Cuts.{SeenCut, LineCut, books_in, orders_end};
-ghost use Rattle.world_core.specs.Kept.{LeavesAs};
+ghost use Rattle.world_core.specs.Kept.{LeavesAs, is_quiet};
 ghost use Rattle.world_core.specs.Restarts.{MayRestart};
 ghost use Rattle.world_core.specs.Stays.{Stays};
 ghost use Rattle.world_core.specs.Trusts.{trust_by};
+ghost use Rattle.world_lines.specs.Pushed.{GrowsToward};
 
 use crate::SeatFault;
 use crate::world::{World, WorldFault};
@@ -19,7 +20,7 @@ use report_text::Line;
 use schedule_text::Event;
 use std::thread::Threads;
 use wire_bcs::{OutOfMemory, Seq};
-use world_names::MakesSeals;
+use world_lines::MakesSeals;
 
 impl World {
     /// Runs one line, and answers the lines that the report has for it. A member's run goes by the line's workers, in
@@ -32,8 +33,9 @@ impl World {
     /// call; or it fell in the call and is down, so no look finds it, and its record was kept or not; or it is as after the
     /// call, its record was kept, and only the line of the report is missing. A `see` may have handed in some entries before
     /// that. A member that fell starts again from its records by a `restart` line, and a `restart` that fails changes
-    /// nothing. Of what was stated nothing is said.
-    #[tactic(auto, unfolding(scene_spec::specs::Steps::work_of), using(crate::proofs::Steps::fault_left, crate::proofs::Leaving::quiet_leaves, crate::proofs::Stays::restart_stays, crate::proofs::Cuts::quiet_line, crate::proofs::Cuts::same_books, crate::proofs::Cuts::still_books, crate::proofs::Cuts::idle_line_on, crate::proofs::Cuts::on_err))]
+    /// nothing. A line that touches no record, as `end` and `ack`, leaves each member as it was. What was stated is as before, or
+    /// goes on with the first of what the line would have stated.
+    #[tactic(auto, unfolding(world_spec::specs::SceneSteps::work_of), using(crate::proofs::Steps::fault_left, crate::proofs::Leaving::quiet_leaves, crate::proofs::Stays::restart_stays, crate::proofs::Cuts::quiet_line, crate::proofs::Cuts::same_books, crate::proofs::Cuts::still_books, crate::proofs::Cuts::idle_line_on, crate::proofs::Cuts::on_err, crate::proofs::Cuts::still_posts, crate::proofs::Cuts::loud_posts, crate::proofs::Cuts::start_posts, crate::proofs::Stated::unsaid_start))]
     pub fn step<R: Threads + Sync, D: Keeper, S: MakesSeals>(
         &mut self,
         rt: &R,
@@ -49,6 +51,8 @@ impl World {
         ensures stay { OnOk result (Stays self.old self.new) }
         ensures cut { OnErr result (LineCut (rules_in (S.accepts sealer.now) self.old) self.old (work_of self.old event.now) self.new.posts (D.lists keeper.old) (D.lists keeper.new)) }
         ensures books { OnErr result (SeenCut books_in (trust_by (S.made sealer.now) (S.accepts sealer.now)) self.old (orders_end event.now) self.new) }
+        ensures quiet { OnErr result (is_quiet event.now ≡ true → self.new.posts ≡ self.old.posts) }
+        ensures said { OnErr result (GrowsToward self.old.said self.new.said (steps_to (trust_by (S.made sealer.now) (S.accepts sealer.now)) self.old event.now).said) }
         ensures keepable { AreKeepable self.old.sequences }
         ensures width { D.width keeper.new ≡ D.width keeper.old }
         ensures later { D.failed keeper.old ≤ D.failed keeper.new }

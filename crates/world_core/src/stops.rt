@@ -6,8 +6,8 @@ ghost use Rattle.outside.specs.Lists.{journal_of};
 ghost use Rattle.protocol_spec.specs.Member.Calls.{due};
 ghost use Rattle.protocol_spec.specs.Member.Member.{fork_of};
 ghost use Rattle.world_spec.specs.World.{reached_up};
-ghost use Rattle.scene_spec.specs.Seats.{rules_of_seat};
-ghost use Rattle.scene_spec.specs.Posts.{record_left, seat_behind};
+ghost use Rattle.world_spec.specs.Seats.{rules_of_seat};
+ghost use Rattle.world_spec.specs.Posts.{record_left, seat_behind};
 ghost use Rattle.world_core.specs.declared.reply.SeatFault.TheVariants as faults;
 ghost use Rattle.world_core.specs.Replies.{AddsBytes, KeptWhere, Leaves, Met, spelled_due, stop_at};
 

@@ -1,8 +1,8 @@
 //! What the members of a committee go by.
 
 ghost use Rattle.std.specs.Prelude.{◌≡◌, ◌<◌, ◌^◌, length};
-ghost use Rattle.scene_spec.specs.Starts.{AreApart, started};
-ghost use Rattle.scene_spec.specs.Terms.{rules_for};
+ghost use Rattle.world_spec.specs.Starts.{AreApart, started};
+ghost use Rattle.world_spec.specs.Terms.{rules_for};
 ghost use Rattle.validator_core.specs.Starts.{Starts};
 
 use chain_types::Object;
@@ -21,7 +21,7 @@ pub struct Terms {
 }
 
 impl Model for Terms {
-    ghost use Rattle.scene_spec.specs.Terms.{Terms};
+    ghost use Rattle.world_spec.specs.Terms.{Terms};
 
     ghost Value = { Terms };
 

@@ -5,16 +5,17 @@ ghost use Rattle.outside.specs.Causes.{Rose};
 ghost use Rattle.protocol_spec.specs.Member.Calls.{turns};
 ghost use Rattle.report_text.specs.declared.lines.Line.TheVariants as line;
 ghost use Rattle.schedule_text.specs.declared.words.Event.TheVariants as events;
-ghost use Rattle.scene_spec.specs.Posts.{posts_behind, reached_in, record_left};
-ghost use Rattle.scene_spec.specs.Scene.{rules_in};
-ghost use Rattle.scene_spec.specs.Steps.{lines_in, steps_to, work_of};
-ghost use Rattle.scene_spec.specs.Terms.{rules_for};
+ghost use Rattle.world_spec.specs.Posts.{posts_behind, reached_in, record_left};
+ghost use Rattle.world_spec.specs.Scene.{rules_in};
+ghost use Rattle.world_spec.specs.SceneSteps.{lines_in, steps_to, work_of};
+ghost use Rattle.world_spec.specs.Terms.{rules_for};
 ghost use Rattle.world_core.specs.declared.reply.SeatFault.TheVariants as fault;
 ghost use Rattle.world_core.specs.Cuts.{CallCut, LineCut, books_in};
 ghost use Rattle.world_core.specs.Epochs.{turn_lines_by};
 ghost use Rattle.world_core.specs.Kept.{LeavesAs};
 ghost use Rattle.world_core.specs.Replies.{Leaves};
 ghost use Rattle.world_core.specs.Trusts.{trust_by};
+ghost use Rattle.world_lines.specs.Pushed.{GrowsToward};
 
 use crate::calls::told;
 use crate::world::World;
@@ -25,8 +26,7 @@ use report_text::{Line, TurnText};
 use std::alloc::Global;
 use std::thread::Threads;
 use wire_bcs::{OutOfMemory, Seq};
-use world_lines::turn_lines;
-use world_names::{Directory, MakesSeals};
+use world_lines::{Directory, MakesSeals, turn_lines};
 
 /// The line of a turn that has no answer.
 fn turn_line(alloc: Global, member: u32, text: TurnText) -> Result<Seq<Line>, SeatFault>
@@ -76,7 +76,7 @@ fn turn<R: Threads + Sync, D: Keeper, S: Sealer>(
 
 impl World {
     /// The line `turn`: turns a member to the next epoch.
-    #[tactic(auto, unfolding(scene_spec::specs::Steps::steps_to, scene_spec::specs::Steps::lines_in, scene_spec::specs::Steps::work_of), using(crate::proofs::Turning::turn_states, crate::proofs::Turning::turn_lines_is, crate::proofs::Lines::left_as))]
+    #[tactic(auto, unfolding(world_spec::specs::SceneSteps::steps_to, world_spec::specs::SceneSteps::lines_in, world_spec::specs::SceneSteps::work_of), using(crate::proofs::Turning::turn_states, crate::proofs::Turning::turn_lines_is, crate::proofs::Lines::left_as))]
     pub(crate) fn turn<R: Threads + Sync, D: Keeper, S: MakesSeals>(
         &mut self,
         rt: &R,
@@ -90,6 +90,7 @@ impl World {
         ensures kept { LeavesAs (rules_in (S.accepts sealer.now) self.old) self.old (work_of self.old (events.Turn member)) (D.lists keeper.old) (D.lists keeper.new) result }
         ensures cut { OnErr result (LineCut (rules_in (S.accepts sealer.now) self.old) self.old (work_of self.old (events.Turn member)) self.new.posts (D.lists keeper.old) (D.lists keeper.new)) }
         ensures books { books_in self.new ≡ books_in self.old }
+        ensures said { OnErr result (GrowsToward self.old.said self.new.said (steps_to (trust_by (S.made sealer.now) (S.accepts sealer.now)) self.old (events.Turn member)).said) }
         ensures width { D.width keeper.new ≡ D.width keeper.old }
         ensures later { D.failed keeper.old ≤ D.failed keeper.new }
         ensures fault { IsErrOf result fault.KeepFault → Rose (D.failed keeper.old) (D.failed keeper.new) }

@@ -1,10 +1,10 @@
 //! False votes.
 
-ghost use Rattle.std.specs.Prelude.{◌≡◌, IfOk, OnOk, slice_get};
+ghost use Rattle.std.specs.Prelude.{◌≡◌, IfOk, OnErr, OnOk, slice_get};
 ghost use Rattle.world_spec.specs.Names.{made_named};
 ghost use Rattle.world_spec.specs.Report.{fvote_lines};
 ghost use Rattle.world_spec.specs.Step.{fvoted};
-ghost use Rattle.scene_spec.specs.Scene.{bare_world};
+ghost use Rattle.world_spec.specs.Scene.{bare_world};
 ghost use Rattle.world_core.specs.Cuts.{still_in};
 ghost use Rattle.world_core.specs.Votes.{flag_at};
 
@@ -26,7 +26,7 @@ pub(crate) fn is_honest(honest: &[bool], member: u32) -> bool
 
 impl World {
     /// The line `fvote`: a faulty member states a vote of the named origins. An honest member states nothing.
-    #[tactic(auto, using(crate::proofs::Voting::unnamed_votes, crate::proofs::Voting::honest_votes_not, crate::proofs::Voting::faulty_votes, crate::proofs::Voting::vote_lines, crate::proofs::Voting::unnamed_lines))]
+    #[tactic(auto, using(crate::proofs::Voting::unnamed_votes, crate::proofs::Voting::honest_votes_not, crate::proofs::Voting::faulty_votes, crate::proofs::Voting::vote_lines, crate::proofs::Voting::unnamed_lines, crate::proofs::Cuts::on_err))]
     pub(crate) fn false_vote(
         &mut self,
         member: u32,
@@ -36,6 +36,7 @@ impl World {
         ensures world { OnOk result (self.new ≡ record self.old { said = (fvoted (bare_world self.old) member words.now (made_named (bare_world self.old) tx.now)).said }) }
         ensures lines { IfOk result (λ lines. lines ≡ fvote_lines (bare_world self.old) member tx.now words.now (made_named (bare_world self.old) tx.now)) }
         ensures still { still_in self.new ≡ still_in self.old }
+        ensures unsaid { OnErr result (self.new.said ≡ self.old.said) }
     {
         let Some(made) = self.directory.made(tx) else {
             let none = Seq::new(self.alloc);

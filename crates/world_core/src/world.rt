@@ -3,9 +3,9 @@
 ghost use Rattle.std.specs.Prelude.{◌≡◌, ◌≤◌, ◌∷◌, [], IfOk, IsErrOf, Ok, length};
 ghost use Rattle.quorum_core.specs.Committee.{committee_of};
 ghost use Rattle.world_spec.specs.Setting.{setting_of, stakes_of};
-ghost use Rattle.scene_spec.specs.Scene.{new_scene};
+ghost use Rattle.world_spec.specs.Scene.{new_scene};
 ghost use Rattle.world_core.specs.declared.world.WorldRefusal.TheVariants as refusal;
-ghost use Rattle.world_names.specs.Openings.{IsRefused};
+ghost use Rattle.world_lines.specs.Openings.{IsRefused};
 ghost use Rattle.world_core.specs.Trusts.{trust_by};
 
 use crate::Seats;
@@ -17,8 +17,9 @@ use schedule_text::Setup;
 use std::alloc::Global;
 use std::marker::Model;
 use wire_bcs::{OutOfMemory, Seq};
-use world_lines::{CertBook, OrderBook, SaidBook};
-use world_names::{Directory, MakesSeals, honest_of, opening_of, stakes_of, writers_of};
+use world_lines::{
+    CertBook, Directory, MakesSeals, OrderBook, SaidBook, honest_of, stakes_of, writers_of,
+};
 
 /// Why a set-up opens no world.
 #[derive(Clone, Copy, Debug, PartialEq, Eq)]
@@ -51,7 +52,7 @@ pub struct World {
 }
 
 impl Model for World {
-    ghost use Rattle.scene_spec.specs.Scene.{Scene};
+    ghost use Rattle.world_spec.specs.Scene.{Scene};
     ghost use Rattle.world_core.specs.Sound.{IsSound};
 
     ghost Value = { Scene };
@@ -63,7 +64,7 @@ impl Model for World {
 
 impl World {
     /// The world of a set-up whose members are this committee.
-    #[tactic(auto, unfolding(world_spec::specs::Setting::setting_of), using(crate::proofs::Sound::few_flags, crate::proofs::Sound::sound_first, world_names::proofs::Opened::opening_apart))]
+    #[tactic(auto, unfolding(world_spec::specs::Setting::setting_of), using(crate::proofs::Sound::few_flags, crate::proofs::Sound::sound_first, world_lines::proofs::Opened::opening_apart))]
     fn open<S: MakesSeals>(
         alloc: Global,
         setup: &[Setup],
@@ -74,11 +75,10 @@ impl World {
         ensures { IfOk result (λ w. w ≡ new_scene (setting_of (trust_by (S.made sealer.now) (S.accepts sealer.now)) setup.now) setup.now) }
     {
         let honest = honest_of(alloc, setup)?;
-        let opening = opening_of(alloc, setup)?;
+        let (directory, opening) = Directory::with_opening(alloc, setup)?;
         let terms = Terms::new(committee, writers_of(setup));
-        let seats = Seats::new(alloc, &terms, honest.as_slice(), &opening, sealer)?;
-        let Ok(directory) = Directory::new(alloc, setup) else {
-            drop(seats);
+        let Ok(seats) = Seats::new(alloc, &terms, honest.as_slice(), &opening, sealer) else {
+            drop(directory);
             return Err(OutOfMemory);
         };
         Ok(World {

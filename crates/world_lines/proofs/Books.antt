@@ -6,10 +6,8 @@ use Rattle.indexmap.specs.IndexMap.{insert_entry}
 use Rattle.std.proofs.lemmas.Slice.Eq.{bytes_eq-Decides}
 use Rattle.std.proofs.lemmas.Bool.{eq-eqb, eqb-true}
 use Rattle.std.proofs.lemmas.Bool.Decides.{same_from_decides}
-use Rattle.std.proofs.lemmas.List.{map-append}
 use Rattle.digest_core.specs.declared.Digest.{Digest}
 use Rattle.chain_types.specs.Equal.{digest_eq}
-use Rattle.chain_messages.specs.declared.messages.Certificate.{Certificate}
 use Rattle.chain_messages.specs.declared.messages.Statement.{Statement}
 use Rattle.chain_messages.specs.declared.messages.Statement.TheVariants as statement
 use Rattle.protocol_spec.proofs.Equality.{digest_same, bytes_turned, digest_self}
@@ -234,11 +232,6 @@ said_more rows places m st placed notes last adds = record {
   acks = placed_with ack_key_eq one_ack_key ack_key_itself key_of_ack rows places.acks.entries m st placed.acks notes.acks last adds;
 }
 
--- what the rows stand for, with one more
-pub said_behind : (rows : List SaidRow) (said : List Said) (m : ℕ) (st : Statement) {ys : List SaidRow} → said_list rows ≡ said → ys ≡ rows ++ record { member = m; statement = st } ∷ []
-    → said_list ys ≡ said ++ record { member = m; statement = st } ∷ []
-said_behind rows said m st view adds = ap said_list adds ∙ map-append said_as rows (record { member = m; statement = st } ∷ []) ∙ ap (λ xs. xs ++ record { member = m; statement = st } ∷ []) view
-
 -- ---- certificates
 
 abbrev name_same : List ℕ → Vec ℕ Global → Bool
@@ -280,7 +273,3 @@ pub formed_more : (rows : List FormedRow) (places : List (Vec ℕ Global × ℕ)
     → LastPlaced name_same is_named ys fs
 formed_more rows places r key placed puts of last adds =
     placed_more name_same names_equal names_respect names_meet is_named rows places r placed puts last adds (λ k. ap (bytes_eq k) of ∙ bytes_turned k r.name)
-
-pub formed_behind : (rows : List FormedRow) (formed : List Formed) (name : List ℕ) (cert : Certificate) {ys : List FormedRow} → formed_list rows ≡ formed → ys ≡ rows ++ record { name = name; cert = cert } ∷ []
-    → formed_list ys ≡ formed ++ record { name = name; cert = cert } ∷ []
-formed_behind rows formed name cert view adds = ap formed_list adds ∙ map-append formed_as rows (record { name = name; cert = cert } ∷ []) ∙ ap (λ xs. xs ++ record { name = name; cert = cert } ∷ []) view

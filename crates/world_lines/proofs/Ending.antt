@@ -13,9 +13,9 @@ use Rattle.chain_messages.specs.declared.messages.MemberSeal.{MemberSeal}
 use Rattle.chain_messages.specs.declared.messages.Sealed.{Sealed}
 use Rattle.chain_messages.specs.declared.messages.Statement.{Statement}
 use Rattle.chain_messages.specs.declared.messages.Statement.TheVariants as statement
-use Rattle.answer_types.specs.declared.answers.Held.{Held}
-use Rattle.answer_types.specs.declared.answers.Ignore.{Ignore}
-use Rattle.answer_types.specs.declared.answers.Ignore.TheVariants as ignore
+use Rattle.protocol_spec.specs.declared.answers.Held.{Held}
+use Rattle.protocol_spec.specs.declared.answers.Ignore.{Ignore}
+use Rattle.protocol_spec.specs.declared.answers.Ignore.TheVariants as ignore
 use Rattle.chain_types.specs.Digests.{transaction_digest}
 use Rattle.protocol_spec.specs.Chain.Certificates.{Rules, read_entry}
 use Rattle.protocol_spec.specs.Chain.Words.{first_some, where_true}

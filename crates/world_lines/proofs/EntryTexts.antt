@@ -1,14 +1,14 @@
 -- The lines of a member's answer to an entry.
 use Rattle.std.proofs.Common.{◌≡◌, ◌∙◌, ap, sym, refl, ℕ, false, List, [], ◌∷◌, ◌++◌, map, Option, Some, None, Err, append_assoc, append-nil}
-use Rattle.answer_types.specs.declared.refusals.SeeRefusal.{SeeRefusal}
-use Rattle.answer_types.specs.declared.refusals.SeeRefusal.TheVariants as no_see
+use Rattle.protocol_spec.specs.declared.refusals.SeeRefusal.{SeeRefusal}
+use Rattle.protocol_spec.specs.declared.refusals.SeeRefusal.TheVariants as no_see
 use Rattle.report_text.specs.declared.lines.Line.{Line}
 use Rattle.world_spec.specs.World.{World}
 use Rattle.world_spec.specs.Report.{Lines, entry_lines}
-use Rattle.scene_spec.specs.Known.{Known, setting_staked}
-use Rattle.scene_spec.specs.Posts.{list_of}
-use Rattle.world_names.specs.Pushed.{each_pushed}
-use Rattle.world_names.proofs.Pushed.{all_pushed}
+use Rattle.world_spec.specs.Known.{Known, setting_staked}
+use Rattle.world_spec.specs.Posts.{list_of}
+use Rattle.world_lines.specs.Pushed.{each_pushed}
+use Rattle.world_lines.proofs.Pushed.{all_pushed}
 
 -- a line, and then one for each item
 pub taken_lines : {A : Type 0} (f : A → Line) (old : List Line) (l : Line) (xs : List A) → each_pushed f (old ++ l ∷ []) xs ≡ old ++ (l ∷ map f xs)

@@ -15,7 +15,7 @@ use Rattle.protocol_spec.specs.Chain.Certificates.{rules_of}
 use Rattle.protocol_spec.specs.Chain.Words.{Each}
 use Rattle.protocol_spec.specs.Member.Sequence.{seen}
 use Rattle.world_lines.specs.Ends.{are_an_end, end_read, ends_read, is_same, with_end}
-use Rattle.world_lines.specs.Orders.{AreEnds, AreSpelled, Orders, entries_of, has_ended_by, orders_of, risen_orders, row_bytes, spelled_entry}
+use Rattle.world_lines.specs.Orders.{AreEnds, AreSpelled, Orders, entries_of, has_ended_by, orders_of, risen_orders, row_bytes, row_entry, spelled_entry}
 use Rattle.world_lines.specs.declared.order.OrderedRow.{OrderedRow}
 use Rattle.world_lines.proofs.Ending.{ended_is, same_end}
 use Rattle.world_lines.proofs.Ordering.{last_set, open_is}
@@ -93,7 +93,7 @@ bytes_spelled : (rows : List OrderedRow) → AreSpelled rows → map row_bytes r
 bytes_spelled [] are = refl
 bytes_spelled (r ∷ rows) are =
     ap (λ (bytes : List ℕ). bytes ∷ map row_bytes rows) are.0.spelled
-    ∙ ap (λ (texts : List (List ℕ)). spelled_entry r.entry.value ∷ texts) (bytes_spelled rows are.1)
+    ∙ ap (λ (texts : List (List ℕ)). spelled_entry (row_entry r) ∷ texts) (bytes_spelled rows are.1)
 
 pub ended_rows : (past : List (List OrderedRow)) (rows : List OrderedRow) (ends : List MemberSeal) (o : Orders) (stakes : List ℕ) (accepts : Signer → List ℕ → Digest → Bool) (writers : Option ℕ) → orders_of past rows ≡ o → AreSpelled rows → AreEnds (length past) rows ends
     → are_an_end stakes accepts (length past) ends ≡ has_ended_by (rules_of stakes writers accepts) o

@@ -9,3 +9,16 @@ pub mod Ending
 pub mod EndTexts
 pub mod KeptEnds
 pub mod Origins
+pub mod SetUp
+pub mod Lookups
+pub mod Names
+pub mod Gathered
+pub mod DrawnRows
+pub mod ShownOrder
+pub mod Pushed
+pub mod Growing
+pub mod LastWords
+pub mod MadeSpelled
+pub mod SetUpLines
+pub mod Opened
+pub mod KnownAddresses

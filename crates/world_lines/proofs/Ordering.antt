@@ -6,7 +6,7 @@ use Rattle.chain_messages.specs.declared.messages.Entry.{Entry}
 use Rattle.wire_bcs.specs.Items.{length_limit}
 use Rattle.protocol_spec.specs.Chain.Words.{Each}
 use Rattle.world_spec.specs.World.{entries_at, list_or_none}
-use Rattle.scene_spec.specs.Worlds.{AreKeepable, IsKeepable}
+use Rattle.world_spec.specs.SceneWorlds.{AreKeepable, IsKeepable}
 use Rattle.world_lines.specs.Orders.{AreSpelled, IsSpelled, Orders, entries_of, open_in, orders_of, row_entry, spelled_entry, with_entry}
 use Rattle.world_lines.specs.declared.order.OrderedRow.{OrderedRow}
 

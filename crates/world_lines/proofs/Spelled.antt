@@ -10,8 +10,8 @@ use Rattle.chain_messages.specs.declared.messages.Statement.TheVariants as state
 use Rattle.chain_messages.specs.Messages as messages
 use Rattle.protocol_spec.proofs.Checked.{origin_short, tx_short}
 use Rattle.world_spec.specs.World.{Said, list_or_none}
-use Rattle.world_names.specs.declared.rows.MadeTx.{MadeTx}
-use Rattle.world_names.specs.Rows.{made_as}
+use Rattle.world_lines.specs.declared.rows.MadeTx.{MadeTx}
+use Rattle.world_lines.specs.KnownRows.{made_as}
 use Rattle.world_lines.specs.Forming.{certificate_by, first_origins_by}
 use Rattle.world_lines.specs.SaidVotes.{vote_by}
 

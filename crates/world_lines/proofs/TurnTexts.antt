@@ -1,15 +1,15 @@
 -- The lines of a turn look only at the epoch of the member that turned, and at nothing of one that did not turn.
 use Rattle.std.proofs.Common.{◌≡◌, ◌∙◌, refl, ℕ, List, [], ◌∷◌, Result, Ok, Err}
 use Rattle.digest_core.specs.declared.Digest.{Digest}
-use Rattle.answer_types.specs.declared.refusals.TurnRefusal.{TurnRefusal}
-use Rattle.answer_types.specs.declared.refusals.TurnRefusal.TheVariants as no_turn
+use Rattle.protocol_spec.specs.declared.refusals.TurnRefusal.{TurnRefusal}
+use Rattle.protocol_spec.specs.declared.refusals.TurnRefusal.TheVariants as no_turn
 use Rattle.report_text.specs.declared.lines.Line.{Line}
 use Rattle.protocol_spec.specs.Member.Member.{Member}
 use Rattle.world_spec.specs.Setting.{Setting}
 use Rattle.world_spec.specs.World.{World}
 use Rattle.world_spec.specs.Report.{turn_answered}
-use Rattle.scene_spec.specs.Known.{names_of, world_with}
-use Rattle.scene_spec.proofs.LineWorlds.{turn_same}
+use Rattle.world_spec.specs.Known.{names_of, world_with}
+use Rattle.world_spec.proofs.LineWorlds.{turn_same}
 use Rattle.world_lines.specs.Answers.{member_in}
 
 refused_alike : (w : World) (m : ℕ) (a b : Member) (refusal : TurnRefusal) → turn_answered w m a (Err refusal) ≡ turn_answered w m b (Err refusal)

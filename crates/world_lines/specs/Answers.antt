@@ -3,8 +3,8 @@ use Rattle.std.specs.Prelude.{ℕ, Bool, true, false, [], Result, Ok, Err}
 use Rattle.digest_core.specs.declared.Digest.{Digest}
 use Rattle.chain_messages.specs.declared.messages.Sealed.{Sealed as SealedStatement}
 use Rattle.chain_messages.specs.declared.messages.Statement.{Statement}
-use Rattle.answer_types.specs.declared.answers.Voted.{Voted as Sealed}
-use Rattle.answer_types.specs.declared.refusals.VoteRefusal.{VoteRefusal}
+use Rattle.protocol_spec.specs.declared.answers.Voted.{Voted as Sealed}
+use Rattle.protocol_spec.specs.declared.refusals.VoteRefusal.{VoteRefusal}
 use Rattle.report_text.specs.declared.lines.Line.{Line}
 use Rattle.report_text.specs.declared.lines.Line.TheVariants as line
 use Rattle.protocol_spec.specs.Member.Calls.{Voted}

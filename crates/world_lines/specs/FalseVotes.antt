@@ -6,7 +6,7 @@ use Rattle.chain_types.specs.Digests.{is_object}
 use Rattle.world_spec.specs.Setting.{Name}
 use Rattle.world_spec.specs.World.{Made, Said}
 use Rattle.world_spec.specs.Step.{no_origins, origin_word, origins_or}
-use Rattle.scene_spec.specs.Known.{Known, world_with}
+use Rattle.world_spec.specs.Known.{Known, world_with}
 use Rattle.world_lines.specs.SaidVotes.{first_vote}
 
 -- one origin more, none, for an input that is an object

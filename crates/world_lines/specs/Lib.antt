@@ -7,3 +7,14 @@ pub mod Forming
 pub mod Orders
 pub mod Ends
 pub mod FalseVotes
+pub mod KnownRows
+pub mod Drawn
+pub mod SetUp
+pub mod Lines
+pub mod Gathered
+pub mod Shown
+pub mod Pushed
+pub mod MakeAnswers
+pub mod Looks
+pub mod Openings
+pub mod Addressed

@@ -16,6 +16,8 @@ use Rattle.protocol_spec.specs.Member.Sequence.{seen}
 use Rattle.protocol_spec.specs.Chain.Words.{Each}
 use Rattle.world_spec.specs.World.{entries_at}
 use Rattle.world_lines.specs.Ends.{ends_read}
+use Rattle.world_lines.specs.declared.order.EntryView.{EntryView}
+use Rattle.world_lines.specs.declared.order.EntryView.TheVariants as views
 use Rattle.world_lines.specs.declared.order.OrderedRow.{OrderedRow}
 
 -- the sequences of the epochs up to the open one, which is the last
@@ -58,15 +60,20 @@ risen_by r o = if has_ended_by r o then risen_orders o else o
 
 -- ---- rows
 
+-- what a row's view shows
+abbrev pub entry_in : EntryView → Entry
+entry_in (views.Cert c) = entry.Cert c.value
+entry_in (views.Whole e) = e.value
+
 abbrev pub row_entry : OrderedRow → Entry
-row_entry r = r.entry.value
+row_entry r = entry_in r.entry
 
 abbrev pub entries_of : List OrderedRow → List Entry
 entries_of rows = map row_entry rows
 
 -- the bytes of a row are its entry's, and fit into a record
 pub record IsSpelled (r : OrderedRow) : Type 0 where
-  pub spelled : r.bytes ≡ messages.entry.spell r.entry.value
+  pub spelled : r.bytes ≡ messages.entry.spell (row_entry r)
   pub short : length r.bytes < length_limit
 
 abbrev pub AreSpelled : List OrderedRow → Type 0

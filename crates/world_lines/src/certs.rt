@@ -20,7 +20,7 @@ fn number_vec(alloc: Global, members: &[u32]) -> Result<Vec<u64>, OutOfMemory>
 }
 
 /// The numbers of members, as a report has them.
-#[tactic(auto, using(world_names::proofs::Pushed::same_items))]
+#[tactic(auto, using(crate::proofs::Pushed::same_items))]
 fn numbers(alloc: Global, members: &[u32]) -> Result<Seq<u64>, OutOfMemory>
     ensures { IfOk result (λ numbers. numbers ≡ members.now) }
 {

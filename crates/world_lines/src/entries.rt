@@ -2,16 +2,16 @@
 
 ghost use Rattle.std.specs.Prelude.{◌≡◌, ◌++◌, [], Err, IfOk, Ok, OnOk};
 ghost use Rattle.world_spec.specs.Report.{entry_lines, ignored_text, what_text};
-ghost use Rattle.scene_spec.specs.Known.{setting_staked, world_with};
-ghost use Rattle.scene_spec.specs.Posts.{list_of};
+ghost use Rattle.world_spec.specs.Known.{setting_staked, world_with};
+ghost use Rattle.world_spec.specs.Posts.{list_of};
 
+use crate::Directory;
 use crate::runs::add_checkpoints;
 use crate::words::{object_text, tx_names, tx_text, version_text};
-use answer_types::{Ignore, SeeRefusal, Seen, SeenWhat};
+use protocol_spec::{Ignore, SeeRefusal, Seen, SeenWhat};
 use quorum_core::Committee;
 use report_text::{EntryText, Line, SeeText};
 use wire_bcs::{OutOfMemory, Seq};
-use world_names::Directory;
 
 /// The ending for an entry that is ignored. Takes no memory.
 fn ignored_text(cause: Ignore) -> EntryText
@@ -28,7 +28,7 @@ fn ignored_text(cause: Ignore) -> EntryText
 }
 
 /// The ending for what a member made of an entry; the weight of Ends is measured against the stake of this committee.
-pub fn what_text(
+pub(crate) fn what_text(
     directory: &Directory,
     committee: &Committee,
     what: &SeenWhat,

@@ -2,18 +2,18 @@
 
 ghost use Rattle.std.specs.Prelude.{◌≡◌, ◌∷◌, [], Err, IfOk, Ok, OnOk};
 ghost use Rattle.world_spec.specs.Report.{ack_answered, close_answered, end_answered, turn_answered};
-ghost use Rattle.scene_spec.specs.Known.{world_with};
-ghost use Rattle.world_names.specs.Pushed.{each_pushed};
+ghost use Rattle.world_spec.specs.Known.{world_with};
+ghost use Rattle.world_lines.specs.Pushed.{each_pushed};
 ghost use Rattle.world_lines.specs.Answers.{member_in, reverted_line, stated_as};
 
+use crate::Directory;
 use crate::runs::one_line;
 use crate::words::tx_text;
-use answer_types::{AckRefusal, CloseRefusal, EndRefusal, TurnRefusal};
 use chain_messages::Sealed;
 use digest_core::Digest;
+use protocol_spec::{AckRefusal, CloseRefusal, EndRefusal, TurnRefusal};
 use report_text::{AckText, CloseText, EndText, Line, TurnText};
 use wire_bcs::{OutOfMemory, Seq};
-use world_names::Directory;
 
 /// The ending for a member's answer to `close`.
 pub fn close_text(
@@ -91,7 +91,7 @@ fn add_reverted(
 }
 
 /// The lines for a turn out of this epoch: the next one and how many transactions were reverted, and each of these.
-#[tactic(auto, using(world_names::proofs::Pushed::one_behind))]
+#[tactic(auto, using(crate::proofs::Pushed::one_behind))]
 fn turned_lines(
     directory: &Directory,
     member: u32,

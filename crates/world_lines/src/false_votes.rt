@@ -4,20 +4,20 @@ ghost use Rattle.std.specs.Prelude.{◌≡◌, ◌∷◌, [], IfOk, OnOk, fold, 
 ghost use Rattle.report_text.specs.declared.lines.Line.TheVariants as line;
 ghost use Rattle.world_spec.specs.Report.{origin_names};
 ghost use Rattle.world_spec.specs.Step.{no_origins, origin_word};
-ghost use Rattle.scene_spec.specs.Known.{world_with};
-ghost use Rattle.world_names.specs.Pushed.{each_pushed};
-ghost use Rattle.world_names.specs.Rows.{made_as};
+ghost use Rattle.world_spec.specs.Known.{world_with};
+ghost use Rattle.world_lines.specs.Pushed.{each_pushed};
+ghost use Rattle.world_lines.specs.KnownRows.{made_as};
 ghost use Rattle.world_lines.specs.FalseVotes.{origins_by, with_none};
 
 use crate::runs::one_line;
 use crate::said::SaidBook;
 use crate::words::origin_names;
+use crate::{Directory, MadeTx};
 use chain_types::{Input, Transaction};
 use digest_core::Digest;
 use report_text::Line;
 use std::alloc::Global;
 use wire_bcs::{OutOfMemory, Seq};
-use world_names::{Directory, MadeTx};
 
 /// Adds an origin, none, for an input that is an object.
 fn add_none(origins: &mut Seq<Option<Digest>>, input: &Input) -> Result<(), OutOfMemory>
@@ -79,7 +79,7 @@ fn add_words(
 }
 
 /// The origins that the words name.
-#[tactic(auto, using(world_names::proofs::Pushed::from_none))]
+#[tactic(auto, using(crate::proofs::Pushed::from_none))]
 fn named_origins(
     directory: &Directory,
     words: &[Option<Seq<u8>>],

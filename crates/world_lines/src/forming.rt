@@ -4,17 +4,17 @@ ghost use Rattle.std.specs.Prelude.{◌≡◌, IfOk, map};
 ghost use Rattle.chain_messages.specs.Messages as codecs;
 ghost use Rattle.chain_types.specs.Transactions as tx_codecs;
 ghost use Rattle.world_spec.specs.World.{list_or_none};
-ghost use Rattle.world_names.specs.Rows.{made_as};
+ghost use Rattle.world_lines.specs.KnownRows.{made_as};
 ghost use Rattle.world_lines.specs.Forming.{certificate_by, first_origins_by, sealed_with, vote_bytes};
 ghost use Rattle.world_lines.specs.SaidVotes.{vote_by};
 
 use crate::said::SaidBook;
+use crate::{MadeTx, MakesSeals};
 use chain_messages::{Certificate, MemberSeal, Statement, encode_statement};
 use digest_core::Digest;
 use quorum_core::Signer;
 use std::alloc::Global;
 use wire_bcs::{Duplicate, OutOfMemory, Seq};
-use world_names::{MadeTx, MakesSeals};
 
 /// The greatest length of a list that can be encoded.
 const LONGEST_LIST: u64 = 2147483647;

@@ -2,14 +2,14 @@
 
 ghost use Rattle.std.specs.Prelude.{◌≡◌, Err, IfOk};
 ghost use Rattle.world_spec.specs.Report.{bad_cert_text, hold_answered};
-ghost use Rattle.scene_spec.specs.Known.{setting_with, world_with};
+ghost use Rattle.world_spec.specs.Known.{setting_with, world_with};
 
+use crate::Directory;
 use crate::words::{tx_text, version_text};
-use answer_types::HoldRefusal;
 use chain_types::CertRefusal;
+use protocol_spec::HoldRefusal;
 use report_text::SendText;
 use wire_bcs::OutOfMemory;
-use world_names::Directory;
 
 /// The ending for a certificate that is not valid. Takes no memory.
 fn bad_cert_text(refusal: &CertRefusal) -> SendText

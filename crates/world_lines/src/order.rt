@@ -1,44 +1,81 @@
 //! The book of sequences.
 
 ghost use Rattle.std.specs.Prelude.{◌≡◌, ℕ, IfOk, OnErr, OnOk, Option, length, option_copied, option_map, slice_get};
+ghost use Rattle.wire_bcs.specs.Wrote.{Writes};
 ghost use Rattle.chain_messages.specs.Messages as codecs;
+ghost use Rattle.chain_messages.specs.declared.messages.Entry.TheVariants as entries;
 ghost use Rattle.protocol_spec.specs.Chain.Certificates.{rules_of};
-ghost use Rattle.scene_spec.specs.Worlds.{AreKeepable};
+ghost use Rattle.world_spec.specs.SceneWorlds.{AreKeepable};
 ghost use Rattle.world_spec.specs.World.{entries_at};
-ghost use Rattle.world_lines.specs.Orders.{AreSpelled, IsSpelled, entries_of, has_ended_by, no_orders, open_in, risen_orders, row_entry, spelled_entry, with_entry};
+ghost use Rattle.world_lines.specs.Ends.{end_read};
+ghost use Rattle.world_lines.specs.Orders.{AreSpelled, IsSpelled, entries_of, entry_in, has_ended_by, no_orders, open_in, risen_orders, row_entry, spelled_entry, with_entry};
 
 use crate::ends::{are_an_end, end_of, keep_end};
-use chain_messages::{Entry, MemberSeal, encode_entry};
+use chain_messages::{Certificate, Entry, MemberSeal, encode_entry};
 use quorum_core::{Committee, Sealer};
 use std::alloc::Global;
 use std::marker::Model;
 use std::snapshot::Snapshot;
-use wire_bcs::{OutOfMemory, Seq};
+use wire_bcs::{Encoded, OutOfMemory, Seq, Writer};
 
 /// In bytes: no record can keep an entry of this length or more.
 const TOO_LONG: u64 = 1 << 31;
 
+/// What an entry is, for contracts only: of one that orders a certificate, the certificate.
+#[derive(Drop)]
+pub(crate) enum EntryView {
+    Cert(Snapshot<Certificate>),
+    Whole(Snapshot<Entry>),
+}
+
 /// An entry of a sequence, encoded once for all members. What it is stands only in contracts.
 #[derive(Drop)]
 pub(crate) struct OrderedRow {
-    entry: Snapshot<Entry>,
+    entry: EntryView,
     bytes: Seq<u8>,
 }
 
-/// An entry, encoded. One of 2^31 bytes, more than any record can keep, is reported as out of memory.
+/// An entry with its encoding. One of 2^31 bytes, more than any record can keep, is reported as out of memory.
+fn ordered_row(entry: EntryView, bytes: Seq<u8>) -> Result<OrderedRow, OutOfMemory>
+    requires { bytes ≡ codecs.entry.spell (entry_in entry) }
+    ensures spelled { IfOk result IsSpelled }
+    ensures entry { IfOk result (λ row. row_entry row ≡ entry_in entry) }
+{
+    if bytes.len() >= TOO_LONG {
+        return Err(OutOfMemory);
+    }
+    Ok(OrderedRow { entry, bytes })
+}
+
+/// An entry, encoded.
 fn spelled(alloc: Global, entry: &Entry) -> Result<OrderedRow, OutOfMemory>
     requires { codecs.entry.short entry.now }
     ensures spelled { IfOk result IsSpelled }
     ensures entry { IfOk result (λ row. row_entry row ≡ entry.now) }
 {
     let bytes = encode_entry(alloc, entry)?;
-    if bytes.len() >= TOO_LONG {
-        return Err(OutOfMemory);
-    }
-    Ok(OrderedRow {
-        entry: Snapshot::of(entry),
-        bytes,
-    })
+    ordered_row(EntryView::Whole(Snapshot::of(entry)), bytes)
+}
+
+/// Writes the entry of a certificate: its number, and the certificate's encoding, which is not made again.
+#[tactic(auto, using(wire_bcs::specs::Wrote::parts), unfolding(chain_messages::specs::Messages::entry))]
+fn write_cert(writer: &mut Writer, cert: &Encoded<Certificate>) -> Result<(), OutOfMemory>
+    ensures { Writes writer.old writer.new (codecs.entry.spell (entries.Cert cert.now)) result }
+{
+    writer.put_tag(0)?;
+    writer.put_fixed(cert.bytes())?;
+    Ok(())
+}
+
+/// The entry of a certificate, which is not copied.
+fn spelled_cert(alloc: Global, cert: &Encoded<Certificate>) -> Result<OrderedRow, OutOfMemory>
+    ensures spelled { IfOk result IsSpelled }
+    ensures entry { IfOk result (λ row. row_entry row ≡ entries.Cert cert.now) }
+{
+    let mut writer = Writer::with_room(alloc, cert.bytes().len().saturating_add(1))?;
+    write_cert(&mut writer, cert)?;
+    let what = Snapshot::of(cert.value());
+    ordered_row(EntryView::Cert(what), writer.finish())
 }
 
 /// The bytes of the entry of this number.
@@ -109,8 +146,23 @@ impl OrderBook {
         self.open.len()
     }
 
-    /// Orders an entry at the end of the open epoch's sequence. A refusal changes nothing.
+    /// Puts an encoded entry after the others, and the End of the open epoch that it is, if it is one.
     #[tactic(auto, using(crate::proofs::Ordering::pushed, crate::proofs::Ordering::spelled_push, crate::proofs::Ordering::keepable_all))]
+    fn push_row(&mut self, row: OrderedRow, end: Option<MemberSeal>) -> Result<(), OutOfMemory>
+        requires spelled { IsSpelled row }
+        requires end { end ≡ end_read self.old.epoch row.bytes }
+        ensures ok { OnOk result (self.new ≡ with_entry self.old (row_entry row)) }
+        ensures err { OnErr result (self.new ≡ self.old) }
+        ensures keepable { AreKeepable self.new.sequences }
+    {
+        self.ends.reserve(1)?;
+        self.open.push(row)?;
+        keep_end(&mut self.ends, end);
+        Ok(())
+    }
+
+    /// Orders an entry at the end of the open epoch's sequence. A refusal changes nothing.
+    #[tactic(auto, using(crate::proofs::Ordering::keepable_all))]
     pub fn push(&mut self, entry: &Entry) -> Result<(), OutOfMemory>
         requires { codecs.entry.short entry.now }
         ensures ok { OnOk result (self.new ≡ with_entry self.old entry.now) }
@@ -118,11 +170,19 @@ impl OrderBook {
         ensures keepable { AreKeepable self.new.sequences }
     {
         let row = spelled(self.alloc, entry)?;
-        let end = end_of(self.alloc, self.past.len(), entry, row.bytes.as_slice())?;
-        self.ends.reserve(1)?;
-        self.open.push(row)?;
-        keep_end(&mut self.ends, end);
-        Ok(())
+        let end = end_of(self.alloc, self.epoch(), entry, row.bytes.as_slice())?;
+        self.push_row(row, end)
+    }
+
+    /// Orders a certificate there, which is neither copied nor encoded again. A refusal changes nothing.
+    #[tactic(auto, using(crate::proofs::Ordering::keepable_all))]
+    pub fn push_cert(&mut self, cert: &Encoded<Certificate>) -> Result<(), OutOfMemory>
+        ensures ok { OnOk result (self.new ≡ with_entry self.old (entries.Cert cert.now)) }
+        ensures err { OnErr result (self.new ≡ self.old) }
+        ensures keepable { AreKeepable self.new.sequences }
+    {
+        let row = spelled_cert(self.alloc, cert)?;
+        self.push_row(row, None)
     }
 
     /// Whether the open epoch's entries end it, to members of this committee that accept these seals. Checks the seal

@@ -4,9 +4,10 @@ ghost use Rattle.std.specs.Prelude.{◌≡◌, ◌⊎◌, ℕ, ◌∷◌, [], If
 ghost use Rattle.chain_messages.specs.Messages as codecs;
 ghost use Rattle.report_text.specs.declared.lines.Line.TheVariants as line;
 ghost use Rattle.protocol_spec.specs.Chain.Certificates.{rules_of};
-ghost use Rattle.scene_spec.specs.Worlds.{AreKeepable};
+ghost use Rattle.world_spec.specs.SceneWorlds.{AreKeepable};
 ghost use Rattle.world_lines.specs.Orders.{risen_by, sealed_end_by, with_entry};
 
+use crate::MakesSeals;
 use crate::order::OrderBook;
 use crate::runs::one_line;
 use chain_messages::{Entry, Sealed, Statement, encode_statement};
@@ -14,7 +15,6 @@ use quorum_core::{Committee, Sealer, Signer};
 use report_text::{Line, OrderEndText, OrderText};
 use std::alloc::Global;
 use wire_bcs::{OutOfMemory, Seq};
-use world_names::MakesSeals;
 
 /// The line of an `order T` with this ending.
 pub fn order_line(alloc: Global, tx: &[u8], text: OrderText) -> Result<Seq<Line>, OutOfMemory>

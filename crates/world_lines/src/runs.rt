@@ -4,17 +4,17 @@ ghost use Rattle.std.specs.Prelude.{◌≡◌, ◌∷◌, [], Err, IfOk, Ok, OnO
 ghost use Rattle.checkpoint_core.specs.declared.checkpoints.Item.{Item};
 ghost use Rattle.world_spec.specs.Names.{tx_name};
 ghost use Rattle.world_spec.specs.Report.{checkpoint_line, effects_line, left_line, run_answered, status_line};
-ghost use Rattle.scene_spec.specs.Known.{setting_with, world_with};
-ghost use Rattle.world_names.specs.Pushed.{each_pushed};
+ghost use Rattle.world_spec.specs.Known.{setting_with, world_with};
+ghost use Rattle.world_lines.specs.Pushed.{each_pushed};
 
+use crate::Directory;
 use crate::words::{tx_text, version_text};
-use answer_types::{Left, Ran, RunRefusal};
 use checkpoint_core::{Checkpoint, HashedCheckpoint, Item};
 use effects_core::{Effects, HashedEffects, Status};
+use protocol_spec::{Left, Ran, RunRefusal};
 use report_text::{Line, RunText};
 use std::alloc::Global;
 use wire_bcs::{OutOfMemory, Seq};
-use world_names::Directory;
 
 /// The line for how a block ended. Takes no memory.
 fn status_line(tx: Seq<u8>, version: u64, gas: u64, status: &Status) -> Line
@@ -40,7 +40,7 @@ fn status_line(tx: Seq<u8>, version: u64, gas: u64, status: &Status) -> Line
 }
 
 /// The line for an executed transaction.
-pub fn effects_line(directory: &Directory, effects: &Effects) -> Result<Line, OutOfMemory>
+pub(crate) fn effects_line(directory: &Directory, effects: &Effects) -> Result<Line, OutOfMemory>
     ensures { IfOk result (λ line. line ≡ effects_line (world_with directory.now) effects.now) }
 {
     let tx = tx_text(directory, &effects.tx)?;
@@ -48,7 +48,7 @@ pub fn effects_line(directory: &Directory, effects: &Effects) -> Result<Line, Ou
 }
 
 /// The line for a transaction that was left: absent, or unfit.
-pub fn left_line(directory: &Directory, left: &Left) -> Result<Line, OutOfMemory>
+pub(crate) fn left_line(directory: &Directory, left: &Left) -> Result<Line, OutOfMemory>
     ensures { IfOk result (λ line. line ≡ left_line (setting_with directory.now) (world_with directory.now) left.now) }
 {
     let tx = tx_text(directory, &left.tx)?;
@@ -77,11 +77,14 @@ fn add_items(
 }
 
 /// The line for a checkpoint.
-#[tactic(auto, using(world_names::proofs::Pushed::from_none))]
-pub fn checkpoint_line(directory: &Directory, checkpoint: &Checkpoint) -> Result<Line, OutOfMemory>
+#[tactic(auto, using(crate::proofs::Pushed::from_none))]
+pub(crate) fn checkpoint_line(
+    directory: &Directory,
+    checkpoint: &Checkpoint,
+) -> Result<Line, OutOfMemory>
     ensures { IfOk result (λ line. line ≡ checkpoint_line (world_with directory.now) checkpoint.now) }
 {
-    let mut txs = Seq::new(directory.allocator());
+    let mut txs = Seq::with_room(directory.allocator(), checkpoint.items.len())?;
     add_items(directory, &mut txs, checkpoint.items.as_slice())?;
     Ok(Line::Checkpoint {
         number: checkpoint.number,
@@ -135,13 +138,13 @@ pub(crate) fn add_checkpoints(
 pub fn one_line(alloc: Global, line: Line) -> Result<Seq<Line>, OutOfMemory>
     ensures { IfOk result (λ lines. lines ≡ line ∷ []) }
 {
-    let mut lines = Seq::new(alloc);
+    let mut lines = Seq::with_room(alloc, 1)?;
     lines.push(line)?;
     Ok(lines)
 }
 
 /// The lines for what a run did: how many it executed, each of these, what it left, and the checkpoints.
-#[tactic(auto, using(world_names::proofs::Pushed::three_behind))]
+#[tactic(auto, using(crate::proofs::Pushed::three_behind))]
 fn ran_lines(directory: &Directory, member: u32, ran: &Ran) -> Result<Seq<Line>, OutOfMemory>
     ensures { IfOk result (λ lines. lines ≡ run_answered (setting_with directory.now) (world_with directory.now) member (Ok ran.now)) }
 {

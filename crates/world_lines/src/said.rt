@@ -4,6 +4,7 @@ ghost use Rattle.std.specs.Prelude.{◌≡◌, ◌<◌, ◌++◌, ◌∷◌, [],
 ghost use Rattle.std.specs.Vec.{vec_capacity, vec_len};
 ghost use Rattle.world_spec.specs.World.{checkpoint_statement, said_by};
 ghost use Rattle.world_spec.specs.Step.{ack_in, end_in, last_said};
+ghost use Rattle.world_lines.specs.Pushed.{GrowsToward};
 ghost use Rattle.world_lines.specs.Rows.{effects_in, origins_in, row_effects, row_end, row_origins, row_statement};
 ghost use Rattle.world_lines.specs.SaidVotes.{first_vote, vote_by, vote_if};
 
@@ -140,9 +141,10 @@ impl SaidBook {
         Ok(())
     }
 
-    /// A member states a checkpoint that it built.
+    /// A member states a checkpoint that it built. A refusal changes nothing.
     fn say_checkpoint(&mut self, member: u32, built: &HashedCheckpoint) -> Result<(), OutOfMemory>
-        ensures { OnOk result (self.new ≡ self.old ++ said_by member (checkpoint_statement built.now) ∷ []) }
+        ensures ok { OnOk result (self.new ≡ self.old ++ said_by member (checkpoint_statement built.now) ∷ []) }
+        ensures err { OnErr result (self.new ≡ self.old) }
     {
         let checkpoint = built.checkpoint();
         let statement = Statement::Checkpoint {
@@ -153,9 +155,11 @@ impl SaidBook {
         self.say(member, statement)
     }
 
-    /// A member states the checkpoints that it built, in order.
+    /// A member states the checkpoints that it built, in order. A refusal leaves the first of them stated, or none.
+    #[tactic(auto, using(protocol_spec::proofs::ListLemmas::front_whole, crate::proofs::Growing::front_pushed, crate::proofs::Growing::some_added))]
     pub fn say_built(&mut self, member: u32, built: &[HashedCheckpoint]) -> Result<(), OutOfMemory>
-        ensures { OnOk result (self.new ≡ self.old ++ map (said_by member) (map checkpoint_statement built.now)) }
+        ensures ok { OnOk result (self.new ≡ self.old ++ map (said_by member) (map checkpoint_statement built.now)) }
+        ensures err { OnErr result (GrowsToward self.old self.new (self.old ++ map (said_by member) (map checkpoint_statement built.now))) }
     {
         let mut rest = built;
         while let [checkpoint, after @ ..] = rest {
@@ -175,7 +179,12 @@ impl SaidBook {
 
     /// The origins of the member's last vote for the transaction of the epoch; none exactly if it stated no such vote.
     /// Takes no memory.
-    pub fn last_vote(&self, member: u32, epoch: u64, tx: &Digest) -> Option<&Seq<Option<Digest>>>
+    pub(crate) fn last_vote(
+        &self,
+        member: u32,
+        epoch: u64,
+        tx: &Digest,
+    ) -> Option<&Seq<Option<Digest>>>
         ensures { option_copied result ≡ vote_by self.now epoch tx.now member }
     {
         self.vote_of(member as u64, epoch, tx)
@@ -191,7 +200,7 @@ impl SaidBook {
 
     /// The digest of the effects in the member's last acknowledgement of the transaction in the epoch; none exactly if
     /// it stated no such acknowledgement. Takes no memory.
-    pub fn last_ack(&self, member: u32, epoch: u64, tx: &Digest) -> Option<&Digest>
+    pub(crate) fn last_ack(&self, member: u32, epoch: u64, tx: &Digest) -> Option<&Digest>
         ensures { option_copied result ≡ last_said (ack_in epoch tx.now) member self.now }
     {
         let place = self.places.ack(member, epoch, tx);
@@ -216,7 +225,7 @@ impl SaidBook {
 
     /// The origins of the last vote for the transaction of the epoch of the lowest-numbered honest member that has
     /// one, if a flag says of each member, from 0, whether it is honest; none exactly if none has one. Takes no memory.
-    pub fn first_vote(
+    pub(crate) fn first_vote(
         &self,
         honest: &[bool],
         epoch: u64,

@@ -2,14 +2,14 @@
 
 ghost use Rattle.std.specs.Prelude.{◌≡◌, ◌∷◌, [], IfOk, OnOk, map};
 ghost use Rattle.world_spec.specs.Report.{object_line, shown, shown_content, shown_owner};
-ghost use Rattle.scene_spec.specs.Known.{setting_with, world_with};
-ghost use Rattle.world_names.specs.Pushed.{each_pushed};
+ghost use Rattle.world_spec.specs.Known.{setting_with, world_with};
+ghost use Rattle.world_lines.specs.Pushed.{each_pushed};
 
+use crate::Directory;
 use crate::words::object_text;
 use chain_types::{Content, Object, Owner};
 use report_text::{ContentText, Line, OwnerText, ShowText};
 use wire_bcs::{OutOfMemory, Seq};
-use world_names::Directory;
 
 /// The owner of an object, as it is shown.
 fn shown_owner(directory: &Directory, owner: &Owner) -> Result<OwnerText, OutOfMemory>
@@ -84,7 +84,7 @@ fn add_objects(
 
 /// The lines for the objects that a member holds: its epoch and their number, and a line for each in the order
 /// in which they are shown.
-#[tactic(auto, using(world_names::proofs::Pushed::one_behind))]
+#[tactic(auto, using(crate::proofs::Pushed::one_behind))]
 pub fn shown_lines(
     directory: &Directory,
     member: u32,

@@ -2,15 +2,15 @@
 
 ghost use Rattle.std.specs.Prelude.{◌≡◌, Err, IfOk};
 ghost use Rattle.world_spec.specs.Report.{vote_answered, voted_text};
-ghost use Rattle.scene_spec.specs.Known.{setting_with, world_with};
+ghost use Rattle.world_spec.specs.Known.{setting_with, world_with};
 ghost use Rattle.world_lines.specs.Answers.{vote_as};
 
+use crate::Directory;
 use crate::words::{origin_names, tx_text, version_text};
-use answer_types::{VoteRefusal, Voted};
 use chain_messages::Statement;
+use protocol_spec::{VoteRefusal, Voted};
 use report_text::VoteText;
 use wire_bcs::OutOfMemory;
-use world_names::Directory;
 
 /// The ending for a vote, which is new or was given before.
 fn voted_text(

@@ -3,13 +3,13 @@
 ghost use Rattle.std.specs.Prelude.{◌≡◌, IfOk, OnOk, map};
 ghost use Rattle.world_spec.specs.Names.{key_name, object_name, tx_name};
 ghost use Rattle.world_spec.specs.Report.{origin_name, origin_names, tx_names};
-ghost use Rattle.scene_spec.specs.Known.{setting_with, world_with};
-ghost use Rattle.world_names.specs.Pushed.{each_pushed};
+ghost use Rattle.world_spec.specs.Known.{setting_with, world_with};
+ghost use Rattle.world_lines.specs.Pushed.{each_pushed};
 
+use crate::Directory;
 use chain_types::{ObjectId, ObjectKey};
 use digest_core::Digest;
 use wire_bcs::{OutOfMemory, Seq};
-use world_names::Directory;
 
 /// The name of a transaction.
 pub fn tx_text(directory: &Directory, tx: &Digest) -> Result<Seq<u8>, OutOfMemory>
@@ -19,7 +19,7 @@ pub fn tx_text(directory: &Directory, tx: &Digest) -> Result<Seq<u8>, OutOfMemor
 }
 
 /// The name of a version.
-pub fn version_text(directory: &Directory, key: &ObjectKey) -> Result<Seq<u8>, OutOfMemory>
+pub(crate) fn version_text(directory: &Directory, key: &ObjectKey) -> Result<Seq<u8>, OutOfMemory>
     ensures { IfOk result (λ name. name ≡ key_name (setting_with directory.now) (world_with directory.now) key.now) }
 {
     directory.key_name(key)
@@ -48,11 +48,11 @@ fn add_names(
 }
 
 /// The names of transactions, in their order.
-#[tactic(auto, using(world_names::proofs::Pushed::from_none))]
-pub fn tx_names(directory: &Directory, txs: &[Digest]) -> Result<Seq<Seq<u8>>, OutOfMemory>
+#[tactic(auto, using(crate::proofs::Pushed::from_none))]
+pub(crate) fn tx_names(directory: &Directory, txs: &[Digest]) -> Result<Seq<Seq<u8>>, OutOfMemory>
     ensures { IfOk result (λ names. names ≡ tx_names (world_with directory.now) txs.now) }
 {
-    let mut names = Seq::new(directory.allocator());
+    let mut names = Seq::with_room(directory.allocator(), txs.len() as u64)?;
     add_names(directory, &mut names, txs)?;
     Ok(names)
 }
@@ -89,14 +89,14 @@ fn add_origins(
 }
 
 /// The names of origins, in their order.
-#[tactic(auto, using(world_names::proofs::Pushed::from_none))]
-pub fn origin_names(
+#[tactic(auto, using(crate::proofs::Pushed::from_none))]
+pub(crate) fn origin_names(
     directory: &Directory,
     origins: &[Option<Digest>],
 ) -> Result<Seq<Option<Seq<u8>>>, OutOfMemory>
     ensures { IfOk result (λ names. names ≡ origin_names (world_with directory.now) origins.now) }
 {
-    let mut names = Seq::new(directory.allocator());
+    let mut names = Seq::with_room(directory.allocator(), origins.len() as u64)?;
     add_origins(directory, &mut names, origins)?;
     Ok(names)
 }

@@ -8,3 +8,13 @@ pub mod Run
 pub mod Assumptions
 pub mod Openings
 pub mod Keyed
+pub mod Terms
+pub mod Starts
+pub mod Seats
+pub mod Known
+pub mod MadeLines
+pub mod HeldDigests
+pub mod Posts
+pub mod Scene
+pub mod SceneSteps
+pub mod SceneWorlds

@@ -17,29 +17,29 @@ use Rattle.effects_core.specs.declared.effects.Status.TheVariants as status
 use Rattle.effects_core.specs.declared.effects.Effects.{Effects}
 use Rattle.checkpoint_core.specs.declared.checkpoints.Item.{Item}
 use Rattle.checkpoint_core.specs.declared.checkpoints.Checkpoint.{Checkpoint}
-use Rattle.answer_types.specs.declared.answers.Left.{Left}
-use Rattle.answer_types.specs.declared.answers.Seen.{Seen}
-use Rattle.answer_types.specs.declared.answers.SeenWhat.{SeenWhat}
-use Rattle.answer_types.specs.declared.answers.SeenWhat.TheVariants as seen_as
-use Rattle.answer_types.specs.declared.answers.Ignore.{Ignore}
-use Rattle.answer_types.specs.declared.answers.Ignore.TheVariants as ignore
-use Rattle.answer_types.specs.declared.answers.Ran.{Ran}
-use Rattle.answer_types.specs.declared.refusals.VoteRefusal.{VoteRefusal}
-use Rattle.answer_types.specs.declared.refusals.VoteRefusal.TheVariants as no_vote
-use Rattle.answer_types.specs.declared.refusals.HoldRefusal.{HoldRefusal}
-use Rattle.answer_types.specs.declared.refusals.HoldRefusal.TheVariants as no_hold
-use Rattle.answer_types.specs.declared.refusals.SeeRefusal.{SeeRefusal}
-use Rattle.answer_types.specs.declared.refusals.SeeRefusal.TheVariants as no_see
-use Rattle.answer_types.specs.declared.refusals.RunRefusal.{RunRefusal}
-use Rattle.answer_types.specs.declared.refusals.RunRefusal.TheVariants as no_run
-use Rattle.answer_types.specs.declared.refusals.CloseRefusal.{CloseRefusal}
-use Rattle.answer_types.specs.declared.refusals.CloseRefusal.TheVariants as no_close
-use Rattle.answer_types.specs.declared.refusals.EndRefusal.{EndRefusal}
-use Rattle.answer_types.specs.declared.refusals.EndRefusal.TheVariants as no_end
-use Rattle.answer_types.specs.declared.refusals.TurnRefusal.{TurnRefusal}
-use Rattle.answer_types.specs.declared.refusals.TurnRefusal.TheVariants as no_turn
-use Rattle.answer_types.specs.declared.refusals.AckRefusal.{AckRefusal}
-use Rattle.answer_types.specs.declared.refusals.AckRefusal.TheVariants as no_ack
+use Rattle.protocol_spec.specs.declared.answers.Left.{Left}
+use Rattle.protocol_spec.specs.declared.answers.Seen.{Seen}
+use Rattle.protocol_spec.specs.declared.answers.SeenWhat.{SeenWhat}
+use Rattle.protocol_spec.specs.declared.answers.SeenWhat.TheVariants as seen_as
+use Rattle.protocol_spec.specs.declared.answers.Ignore.{Ignore}
+use Rattle.protocol_spec.specs.declared.answers.Ignore.TheVariants as ignore
+use Rattle.protocol_spec.specs.declared.answers.Ran.{Ran}
+use Rattle.protocol_spec.specs.declared.refusals.VoteRefusal.{VoteRefusal}
+use Rattle.protocol_spec.specs.declared.refusals.VoteRefusal.TheVariants as no_vote
+use Rattle.protocol_spec.specs.declared.refusals.HoldRefusal.{HoldRefusal}
+use Rattle.protocol_spec.specs.declared.refusals.HoldRefusal.TheVariants as no_hold
+use Rattle.protocol_spec.specs.declared.refusals.SeeRefusal.{SeeRefusal}
+use Rattle.protocol_spec.specs.declared.refusals.SeeRefusal.TheVariants as no_see
+use Rattle.protocol_spec.specs.declared.refusals.RunRefusal.{RunRefusal}
+use Rattle.protocol_spec.specs.declared.refusals.RunRefusal.TheVariants as no_run
+use Rattle.protocol_spec.specs.declared.refusals.CloseRefusal.{CloseRefusal}
+use Rattle.protocol_spec.specs.declared.refusals.CloseRefusal.TheVariants as no_close
+use Rattle.protocol_spec.specs.declared.refusals.EndRefusal.{EndRefusal}
+use Rattle.protocol_spec.specs.declared.refusals.EndRefusal.TheVariants as no_end
+use Rattle.protocol_spec.specs.declared.refusals.TurnRefusal.{TurnRefusal}
+use Rattle.protocol_spec.specs.declared.refusals.TurnRefusal.TheVariants as no_turn
+use Rattle.protocol_spec.specs.declared.refusals.AckRefusal.{AckRefusal}
+use Rattle.protocol_spec.specs.declared.refusals.AckRefusal.TheVariants as no_ack
 use Rattle.schedule_text.specs.declared.words.Event.{Event}
 use Rattle.schedule_text.specs.declared.words.Event.TheVariants as event
 use Rattle.report_text.specs.declared.lines.Line.{Line}

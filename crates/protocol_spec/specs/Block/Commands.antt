@@ -17,14 +17,14 @@ use Rattle.chain_types.specs.declared.transactions.Argument.TheVariants as argum
 use Rattle.chain_types.specs.declared.transactions.Command.{Command}
 use Rattle.chain_types.specs.declared.transactions.Command.TheVariants as command
 use Rattle.chain_types.specs.declared.transactions.Transaction.{Transaction}
-use Rattle.answer_types.specs.declared.pieces.Item.{Item}
-use Rattle.answer_types.specs.declared.pieces.Given.{Given}
-use Rattle.answer_types.specs.declared.pieces.Given.TheVariants as given
-use Rattle.answer_types.specs.declared.pieces.Placed.{Placed}
-use Rattle.answer_types.specs.declared.pieces.Gave.{Gave}
-use Rattle.answer_types.specs.declared.pieces.Gave.TheVariants as gave
-use Rattle.answer_types.specs.declared.pieces.Mode.{Mode}
-use Rattle.answer_types.specs.declared.pieces.Mode.TheVariants as mode
+use Rattle.protocol_spec.specs.declared.pieces.Item.{Item}
+use Rattle.protocol_spec.specs.declared.pieces.Given.{Given}
+use Rattle.protocol_spec.specs.declared.pieces.Given.TheVariants as given
+use Rattle.protocol_spec.specs.declared.pieces.Placed.{Placed}
+use Rattle.protocol_spec.specs.declared.pieces.Gave.{Gave}
+use Rattle.protocol_spec.specs.declared.pieces.Gave.TheVariants as gave
+use Rattle.protocol_spec.specs.declared.pieces.Mode.{Mode}
+use Rattle.protocol_spec.specs.declared.pieces.Mode.TheVariants as mode
 use Rattle.protocol_spec.specs.Chain.Words.{first_some, where_true, unless_refused, refused_or}
 use Rattle.protocol_spec.specs.Chain.Tests.{kind_eq}
 use Rattle.protocol_spec.specs.Block.Natives.{kind_of, currency_of, amount_of, holding, parameters_of, amount_limit, Site, new_item, native_gives}
@@ -83,10 +83,6 @@ has_no_result b argument.Gas = false
 has_no_result b (argument.Input n) = false
 has_no_result b (argument.Result c) = not (result_count c b.slots == 1)
 has_no_result b (argument.Nested c k) = nat_le (result_count c b.slots) k
-
-abbrev pub is_spent : Option Value → Bool
-is_spent None = true
-is_spent (Some value) = false
 
 -- 3: pure bytes of another length than a number or an address has
 abbrev pub is_bad_pure : Need → Value → Bool

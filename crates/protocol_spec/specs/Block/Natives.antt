@@ -10,13 +10,13 @@ use Rattle.chain_types.specs.declared.objects.Content.{Content}
 use Rattle.chain_types.specs.declared.objects.Content.TheVariants as content
 use Rattle.chain_types.specs.declared.objects.Owner.{Owner}
 use Rattle.chain_types.specs.declared.objects.Owner.TheVariants as owner
-use Rattle.answer_types.specs.declared.pieces.Item.{Item}
-use Rattle.answer_types.specs.declared.pieces.Given.{Given}
-use Rattle.answer_types.specs.declared.pieces.Given.TheVariants as given
-use Rattle.answer_types.specs.declared.pieces.Gave.{Gave}
-use Rattle.answer_types.specs.declared.pieces.Gave.TheVariants as gave
-use Rattle.answer_types.specs.declared.pieces.Mode.{Mode}
-use Rattle.answer_types.specs.declared.pieces.Mode.TheVariants as mode
+use Rattle.protocol_spec.specs.declared.pieces.Item.{Item}
+use Rattle.protocol_spec.specs.declared.pieces.Given.{Given}
+use Rattle.protocol_spec.specs.declared.pieces.Given.TheVariants as given
+use Rattle.protocol_spec.specs.declared.pieces.Gave.{Gave}
+use Rattle.protocol_spec.specs.declared.pieces.Gave.TheVariants as gave
+use Rattle.protocol_spec.specs.declared.pieces.Mode.{Mode}
+use Rattle.protocol_spec.specs.declared.pieces.Mode.TheVariants as mode
 use Rattle.chain_types.specs.Equal.{id_eq}
 
 -- ---- contents

@@ -10,8 +10,8 @@ use Rattle.chain_types.specs.declared.objects.Producer.TheVariants as producers
 use Rattle.chain_types.specs.declared.transactions.Input.{Input}
 use Rattle.chain_types.specs.declared.transactions.Input.TheVariants as inputs
 use Rattle.chain_messages.specs.declared.messages.Certificate.{Certificate}
-use Rattle.answer_types.specs.declared.answers.Assigned.{Assigned}
-use Rattle.answer_types.specs.declared.answers.Held.{Held}
+use Rattle.protocol_spec.specs.declared.answers.Assigned.{Assigned}
+use Rattle.protocol_spec.specs.declared.answers.Held.{Held}
 use Rattle.chain_types.specs.Equal.{digest_eq, id_eq}
 use Rattle.chain_types.specs.Digests.{lamport_version}
 use Rattle.protocol_spec.specs.Chain.Words.{first_some, first_of, where_true, last_where}

@@ -8,7 +8,7 @@ use Rattle.chain_types.specs.declared.transactions.Transaction.{Transaction}
 use Rattle.checkpoint_core.specs.declared.checkpoints.Checkpoint.{Checkpoint}
 use Rattle.journal_core.specs.declared.records.Record.{Record}
 use Rattle.journal_core.specs.declared.records.Record.TheVariants as record_as
-use Rattle.answer_types.specs.declared.answers.Held.{Held}
+use Rattle.protocol_spec.specs.declared.answers.Held.{Held}
 use Rattle.chain_types.specs.Equal.{digest_eq}
 use Rattle.chain_types.specs.Digests.{transaction_digest, consumed_keys}
 use Rattle.protocol_spec.specs.Chain.Words.{first_of, first_some}

@@ -7,7 +7,7 @@ use Rattle.chain_messages.specs.declared.messages.Statement.TheVariants as state
 use Rattle.journal_core.specs.declared.records.RanItem.{RanItem}
 use Rattle.journal_core.specs.declared.records.Record.{Record}
 use Rattle.journal_core.specs.declared.records.Record.TheVariants as record_as
-use Rattle.answer_types.specs.declared.refusals.VoteRefusal.{VoteRefusal}
+use Rattle.protocol_spec.specs.declared.refusals.VoteRefusal.{VoteRefusal}
 use Rattle.chain_types.specs.Equal.{digest_eq}
 use Rattle.protocol_spec.specs.Chain.Words.{first_some, refused_or}
 use Rattle.protocol_spec.specs.Chain.Tests.{list_eq, origins_eq}

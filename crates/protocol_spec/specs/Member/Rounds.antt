@@ -10,10 +10,10 @@ use Rattle.chain_types.specs.declared.objects.Producer.{Producer}
 use Rattle.chain_types.specs.declared.objects.Producer.TheVariants as producers
 use Rattle.chain_types.specs.declared.transactions.Input.{Input}
 use Rattle.chain_types.specs.declared.transactions.Input.TheVariants as inputs
-use Rattle.answer_types.specs.declared.pieces.Executed.{Executed}
-use Rattle.answer_types.specs.declared.answers.Assigned.{Assigned}
-use Rattle.answer_types.specs.declared.answers.Held.{Held}
-use Rattle.answer_types.specs.declared.answers.Left.{Left}
+use Rattle.protocol_spec.specs.declared.pieces.Executed.{Executed}
+use Rattle.protocol_spec.specs.declared.answers.Assigned.{Assigned}
+use Rattle.protocol_spec.specs.declared.answers.Held.{Held}
+use Rattle.protocol_spec.specs.declared.answers.Left.{Left}
 use Rattle.chain_types.specs.Equal.{id_eq, key_eq}
 use Rattle.chain_types.specs.Digests.{key_of, consumed_keys}
 use Rattle.protocol_spec.specs.Chain.Words.{first_of, all_some, repeats, where_true}

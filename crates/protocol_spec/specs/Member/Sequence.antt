@@ -11,11 +11,11 @@ use Rattle.chain_messages.specs.declared.messages.Sealed.{Sealed}
 use Rattle.chain_messages.specs.declared.messages.Certificate.{Certificate}
 use Rattle.chain_messages.specs.declared.messages.Entry.{Entry}
 use Rattle.chain_messages.specs.declared.messages.Entry.TheVariants as entry
-use Rattle.answer_types.specs.declared.answers.Held.{Held}
-use Rattle.answer_types.specs.declared.answers.Ignore.{Ignore}
-use Rattle.answer_types.specs.declared.answers.Ignore.TheVariants as ignore
-use Rattle.answer_types.specs.declared.answers.SeenWhat.{SeenWhat}
-use Rattle.answer_types.specs.declared.answers.SeenWhat.TheVariants as seen_as
+use Rattle.protocol_spec.specs.declared.answers.Held.{Held}
+use Rattle.protocol_spec.specs.declared.answers.Ignore.{Ignore}
+use Rattle.protocol_spec.specs.declared.answers.Ignore.TheVariants as ignore
+use Rattle.protocol_spec.specs.declared.answers.SeenWhat.{SeenWhat}
+use Rattle.protocol_spec.specs.declared.answers.SeenWhat.TheVariants as seen_as
 use Rattle.chain_types.specs.Digests.{transaction_digest}
 use Rattle.protocol_spec.specs.Chain.Words.{first_some, where_true}
 use Rattle.protocol_spec.specs.Chain.Committee.{weight, is_quorum, is_among}

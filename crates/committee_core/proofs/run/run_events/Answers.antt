@@ -1,8 +1,8 @@
 use Rattle.std.proofs.Common.{◌≡◌, ◌<◌, ◌≤◌, ℕ, length, get_or, refl, sym, ◌∙◌, subst, arith}
 use Rattle.std.proofs.lemmas.Result.{err_from_is_err_and}
 use Rattle.world_spec.specs.World.{new_world}
-use Rattle.scene_spec.specs.Scene.{Scene}
-use Rattle.scene_spec.specs.Worlds.{Shows}
+use Rattle.world_spec.specs.Scene.{Scene}
+use Rattle.world_spec.specs.SceneWorlds.{Shows}
 use Rattle.world_core.specs.Trusts.{trust_by}
 use Rattle.committee_core.specs.Journals.{AreAtLeast}
 use Rattle.committee_core.specs.Report.{setting_in}

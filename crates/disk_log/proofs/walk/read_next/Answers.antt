@@ -1,5 +1,5 @@
 use Rattle.std.proofs.Common.{◌≡◌, ◌-◌, arith, ap}
-use Rattle.disk_log.proofs.Heads.{told-few, told-says}
+use Rattle.disk_log.proofs.Heads.{told-few}
 use Rattle.disk_log.proofs.walk.read_next.Goals as goal
 
 pub returns-then-left-lt10-clause-next : goal.returns-then-left-lt10-clause-next

@@ -1,6 +1,6 @@
 use Rattle.std.proofs.Common.{◌∙◌, List, ap}
 use Rattle.std.specs.Prelude.{option_map, slice_get}
-use Rattle.answer_types.specs.declared.answers.Held.{Held}
+use Rattle.protocol_spec.specs.declared.answers.Held.{Held}
 use Rattle.epoch_turn.specs.Dues.{front_length, is_ordered}
 use Rattle.epoch_turn.proofs.Fronts.{found_first}
 use Rattle.epoch_turn.proofs.ordered.first_unordered.Goals as goal

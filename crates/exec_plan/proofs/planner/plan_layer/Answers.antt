@@ -2,7 +2,7 @@ use Rattle.std.proofs.Common.{[], ◌∙◌, ◌++◌, List, ℕ, ap, map, subst
 use Rattle.indexmap.specs.IndexSet.{insert_all}
 use Rattle.digest_core.specs.declared.Digest.{Digest}
 use Rattle.chain_types.specs.Equal.{digest_eq}
-use Rattle.answer_types.specs.declared.answers.Held.{Held}
+use Rattle.protocol_spec.specs.declared.answers.Held.{Held}
 use Rattle.version_store.specs.Stores.{Stored}
 use Rattle.exec_plan.specs.Ahead.{AreTaken, joining}
 use Rattle.exec_plan.specs.Behind.{Frees}

@@ -1,5 +1,5 @@
 use Rattle.std.proofs.Common.{◌∙◌, ◌++◌, List, ap, subst}
-use Rattle.answer_types.specs.declared.answers.Held.{Held}
+use Rattle.protocol_spec.specs.declared.answers.Held.{Held}
 use Rattle.exec_plan.specs.Ahead.{Agrees}
 use Rattle.exec_plan.specs.Books.{books_of}
 use Rattle.exec_plan.specs.Layers.{planned_of}

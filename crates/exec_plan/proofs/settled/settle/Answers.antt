@@ -27,7 +27,7 @@ returns-clause-written c =
 pub returns-clause-effects : goal.returns-clause-effects
 returns-clause-effects c =
     c.in_ok-keep_all.ensures.copied
-    ∙ ap (λ (es : List Effects). es ++ map effects_of (kept_of c.args.store.now.opening c.args.store.now.executed c.as_slice.result.now c.args.outputs)) c.new-effects.ensures
+    ∙ ap (λ (es : List Effects). es ++ map effects_of (kept_of c.args.store.now.opening c.args.store.now.executed c.as_slice.result.now c.args.outputs)) c.in_ok-effects.ensures
     ∙ ap (map effects_of)
     (kept_is c.args.store.now c.args.admission.now.admission c.args.held.now c.args.ready.now.plan.jobs c.as_slice.result.now c.args.ready.now.plan.edges c.args.outputs c.args.outputs c.requires.apart
     c.requires.tasks c.requires.edges c.requires.outputs c.as_slice.ensures.value refl)

@@ -1,4 +1,4 @@
-use Rattle.world_names.proofs.Opened.{opening_apart}
+use Rattle.world_lines.proofs.Opened.{opening_apart}
 use Rattle.program_tests.proofs.members.started_over.Goals as goal
 
 pub started_from-requires : goal.started_from-requires

@@ -8,9 +8,8 @@ use Rattle.ptb_run.proofs.commands.transfer.Goals as goal
 
 pub returns-clause-after : goal.returns-clause-after
 returns-clause-after c =
-    transfer_is (block_of c.args.block.now) (block_of c.place_all.new.self) (block_of c.spend_all.new.self) (block_of c.add_nothing.new.self) c.args.values.now (owner.Address c.address_in.result) c.in_ok-items.items
-    c.in_ok-items.ensures
-    (cc (c.in_ok-place_all.ensures.after, c.as_slice.ensures.value))
+    transfer_is (block_of c.args.block.now) (block_of c.place_all.new.self) (block_of c.spend_all.new.self) (block_of c.add_nothing.new.self) c.args.values.now (owner.Address c.address_in.result)
+    c.in_ok-place_all.ensures.after
     c.spend_all.ensures.after
     c.in_ok-add_nothing.ensures.after
     ∙ ap (λ (a : Address). commands.transfer_block (block_of c.args.block.now) c.args.values.now a) c.address_in.ensures

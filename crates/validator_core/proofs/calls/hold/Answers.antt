@@ -1,5 +1,5 @@
 use Rattle.protocol_spec.specs.Member.Calls.{due, holds}
-use Rattle.scene_spec.specs.Terms.{rules_for}
+use Rattle.world_spec.specs.Terms.{rules_for}
 use Rattle.validator_core.specs.Limits.{terms_at}
 use Rattle.validator_core.proofs.Casting.{fork_due, hold_called, new_due}
 use Rattle.validator_core.proofs.calls.hold.Goals as goal

@@ -2,7 +2,7 @@ use Rattle.std.proofs.Common.{◌≡◌, Bool, true, false, Some, ◌∙◌, ap,
 use Rattle.std.specs.Prelude.{Result, Err}
 use Rattle.std.proofs.lemmas.Result.{err_from_is_err_and}
 use Rattle.journal_core.specs.declared.records.Record.TheVariants as record_as
-use Rattle.answer_types.specs.declared.refusals.CloseRefusal.{CloseRefusal}
+use Rattle.protocol_spec.specs.declared.refusals.CloseRefusal.{CloseRefusal}
 use Rattle.protocol_spec.specs.Member.Calls.{closes, due}
 use Rattle.validator_core.specs.Answers.{bare}
 use Rattle.validator_core.specs.Calls.{close_ended, unkept_close}

@@ -3,8 +3,8 @@ use Rattle.std.specs.Prelude.{Result, Err}
 use Rattle.std.proofs.lemmas.Result.{err_from_is_err_and}
 use Rattle.effects_core.specs.declared.effects.Effects.{Effects}
 use Rattle.journal_core.specs.declared.records.RanItem.{RanItem}
-use Rattle.answer_types.specs.declared.answers.Ran.{Ran}
-use Rattle.answer_types.specs.declared.refusals.RunRefusal.{RunRefusal}
+use Rattle.protocol_spec.specs.declared.answers.Ran.{Ran}
+use Rattle.protocol_spec.specs.declared.refusals.RunRefusal.{RunRefusal}
 use Rattle.protocol_spec.specs.Member.Member.{Member}
 use Rattle.protocol_spec.specs.Member.Calls.{due, ran_items, ran_record, runs}
 use Rattle.validator_core.specs.Answers.{bare}

@@ -1,7 +1,7 @@
 use Rattle.std.proofs.Common.{◌≡◌, ◌+◌, length}
-use Rattle.scene_spec.specs.Terms.{rules_for}
+use Rattle.world_spec.specs.Terms.{rules_for}
 use Rattle.validator_core.specs.Limits.{terms_at}
-use Rattle.scene_spec.specs.Starts.{started_from}
+use Rattle.world_spec.specs.Starts.{started_from}
 use Rattle.validator_core.proofs.start.take_all.Given as goal
 
 -- the records that are left give what all give

@@ -3,7 +3,7 @@ use Rattle.std.specs.Prelude.{List, Result, Err}
 use Rattle.std.proofs.lemmas.Result.{err_from_is_err_and}
 use Rattle.digest_core.specs.declared.Digest.{Digest}
 use Rattle.journal_core.specs.declared.records.Record.TheVariants as record_as
-use Rattle.answer_types.specs.declared.refusals.TurnRefusal.{TurnRefusal}
+use Rattle.protocol_spec.specs.declared.refusals.TurnRefusal.{TurnRefusal}
 use Rattle.protocol_spec.specs.Member.Calls.{due, turns}
 use Rattle.validator_core.specs.Answers.{bare}
 use Rattle.validator_core.specs.Calls.{turn_ended, unkept_turn}

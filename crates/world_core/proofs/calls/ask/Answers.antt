@@ -1,7 +1,7 @@
 use Rattle.std.proofs.Common.{subst}
-use Rattle.scene_spec.specs.Terms.{rules_for}
+use Rattle.world_spec.specs.Terms.{rules_for}
 use Rattle.protocol_spec.specs.Member.Calls.{votes}
-use Rattle.scene_spec.specs.Posts.{reached_in}
+use Rattle.world_spec.specs.Posts.{reached_in}
 use Rattle.world_core.specs.Replies.{Replies, SaysVote}
 use Rattle.world_core.proofs.Texts.{vote_states}
 use Rattle.world_core.proofs.Cuts.{call_ended, call_fell}

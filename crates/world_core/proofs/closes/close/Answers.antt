@@ -1,5 +1,5 @@
 use Rattle.protocol_spec.specs.Member.Calls.{closes}
-use Rattle.scene_spec.specs.Terms.{rules_for}
+use Rattle.world_spec.specs.Terms.{rules_for}
 use Rattle.world_core.proofs.Cuts.{call_ended, call_fell}
 use Rattle.world_core.proofs.closes.close.Goals as goal
 

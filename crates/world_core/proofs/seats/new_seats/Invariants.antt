@@ -1,5 +1,5 @@
 use Rattle.std.proofs.Common.{◌≡◌, ◌+◌, ◌++◌, length}
-use Rattle.scene_spec.specs.Posts.{new_posts}
+use Rattle.world_spec.specs.Posts.{new_posts}
 use Rattle.world_core.proofs.seats.new_seats.Given as goal
 
 -- the members that are made, and those that are left, make up all

@@ -1,6 +1,6 @@
 use Rattle.std.proofs.Common.{◌≡◌, drop}
-use Rattle.scene_spec.specs.Known.{world_with}
-use Rattle.world_names.specs.Pushed.{each_pushed}
+use Rattle.world_spec.specs.Known.{world_with}
+use Rattle.world_lines.specs.Pushed.{each_pushed}
 use Rattle.world_lines.specs.Answers.{reverted_line}
 use Rattle.world_lines.proofs.epochs.add_reverted.Given as goal
 

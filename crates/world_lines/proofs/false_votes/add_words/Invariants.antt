@@ -1,7 +1,7 @@
 use Rattle.std.proofs.Common.{◌≡◌, drop}
 use Rattle.world_spec.specs.Step.{origin_word}
-use Rattle.scene_spec.specs.Known.{world_with}
-use Rattle.world_names.specs.Pushed.{each_pushed}
+use Rattle.world_spec.specs.Known.{world_with}
+use Rattle.world_lines.specs.Pushed.{each_pushed}
 use Rattle.world_lines.proofs.false_votes.add_words.Given as goal
 
 -- the words that are left add what is missing

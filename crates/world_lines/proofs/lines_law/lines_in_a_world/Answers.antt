@@ -1,4 +1,4 @@
-use Rattle.scene_spec.proofs.LineWorlds.{ack_same, close_same, end_same, hold_same, run_same, see_same, shown_same, vote_same}
+use Rattle.world_spec.proofs.LineWorlds.{ack_same, close_same, end_same, hold_same, run_same, see_same, shown_same, vote_same}
 use Rattle.world_lines.proofs.TurnTexts.{turn_in}
 use Rattle.world_lines.proofs.lines_law.lines_in_a_world.Goals as goal
 

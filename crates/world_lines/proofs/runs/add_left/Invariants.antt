@@ -1,7 +1,7 @@
 use Rattle.std.proofs.Common.{◌≡◌, drop}
 use Rattle.world_spec.specs.Report.{left_line}
-use Rattle.scene_spec.specs.Known.{setting_with, world_with}
-use Rattle.world_names.specs.Pushed.{each_pushed}
+use Rattle.world_spec.specs.Known.{setting_with, world_with}
+use Rattle.world_lines.specs.Pushed.{each_pushed}
 use Rattle.world_lines.proofs.runs.add_left.Given as goal
 
 -- the rest of the loop adds what is missing

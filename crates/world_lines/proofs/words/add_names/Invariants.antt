@@ -1,7 +1,7 @@
 use Rattle.std.proofs.Common.{◌≡◌, drop}
 use Rattle.world_spec.specs.Names.{tx_name}
-use Rattle.scene_spec.specs.Known.{world_with}
-use Rattle.world_names.specs.Pushed.{each_pushed}
+use Rattle.world_spec.specs.Known.{world_with}
+use Rattle.world_lines.specs.Pushed.{each_pushed}
 use Rattle.world_lines.proofs.words.add_names.Given as goal
 
 -- the rest of the loop adds what is missing

@@ -7,9 +7,6 @@ use Rattle.disk_log.specs.Memory.{DiskState, history_of}
 use Rattle.disk_log.proofs.Changes.{Fits, tried, wrote, reads-tried, reads-wrote, length-with_bytes}
 use Rattle.disk_log.proofs.mem_disk.MemDiskDisk.write_at.Goals as goal
 
-made : ℕ → List ℕ → Bool → Change
-made at bytes failed = record { at = at; bytes = bytes; failed = failed; synced = false }
-
 -- all changes still end below the limit
 still : (old new room : List Change) (at : ℕ) (bytes given : List ℕ) (failed : Bool) → new ≡ room ++ record { at = at; bytes = given; failed = failed; synced = false } ∷ [] → room ≡ old → given ≡ bytes → at + length bytes < 2 ^ 63 → All Fits old → All Fits new
 still old new room at bytes given failed is kept same fits all =

@@ -8,7 +8,7 @@ use Rattle.exec_plan.proofs.waiting.Waiting.file.Goals as goal
 
 pub returns-in-Some-clause-filed : goal.returns-in-Some-clause-filed
 returns-in-Some-clause-filed c =
-    let waits = waits_for c.args.past.now.executed c.args.admission.now.admission c.args.held.now c.in-Some.tx (sym c.in_ok-tx.ensures ∙ c.in-Some.is) in
+    let waits = waits_for c.args.past.now.executed c.args.admission.now.admission c.args.held.now c.in-Some.tx (sym c.awaited.ensures ∙ c.in-Some.is) in
     on_ok_weaker c.add_behind-in-Some.result (λ has. is_behind (sym c.is_let.ensures ∙ c.if-not-is_let.false) (record { maker = c.in-Some.tx; listed = has; makes = waits.0; first = waits.1 }))
     c.add_behind-in-Some.ensures.added
 
@@ -23,4 +23,4 @@ pub returns-in_ok-insert-in-None-clause-filed : goal.returns-in_ok-insert-in-Non
 returns-in_ok-insert-in-None-clause-filed c =
     comes_next (sym c.is_let.ensures ∙ c.if-not-is_let.false)
     (subst (λ ks. Has ks c.args.place) (sym c.in_ok-insert-in-None.ensures.keys) (placed_has c.args.self.now.next.keys c.args.place))
-    (waits_for_none c.args.past.now.executed c.args.admission.now.admission c.args.held.now (sym c.in_ok-tx.ensures ∙ c.in-None.is))
+    (waits_for_none c.args.past.now.executed c.args.admission.now.admission c.args.held.now (sym c.awaited.ensures ∙ c.in-None.is))

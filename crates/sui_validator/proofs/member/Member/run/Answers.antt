@@ -1,9 +1,9 @@
 use Rattle.std.proofs.Common.{◌≡◌, true, None, is_some, subst}
 use Rattle.std.specs.Prelude.{IsErrOf}
-use Rattle.answer_types.specs.declared.refusals.RunRefusal.TheVariants as no_run
+use Rattle.protocol_spec.specs.declared.refusals.RunRefusal.TheVariants as no_run
 use Rattle.protocol_spec.specs.Member.Member.{fork_of}
 use Rattle.protocol_spec.specs.Member.Calls.{runs}
-use Rattle.scene_spec.specs.Seats.{bare_rules, due_at}
+use Rattle.world_spec.specs.Seats.{bare_rules, due_at}
 use Rattle.validator_core.specs.Calls.{run_ended}
 use Rattle.sui_validator.specs.Journals.{Kept}
 use Rattle.sui_validator.proofs.Keeping.{keeps_own}

@@ -1,5 +1,5 @@
 use Rattle.std.proofs.Common.{◌≡◌, ◌∙◌, ◌++◌, ◌∷◌, [], List, true, false, ap, sym, subst, length}
-use Rattle.answer_types.specs.declared.answers.Held.{Held}
+use Rattle.protocol_spec.specs.declared.answers.Held.{Held}
 use Rattle.exec_plan.specs.Waits.{IsWaiting}
 use Rattle.protocol_spec.proofs.Truth.{on_ok_then}
 use Rattle.protocol_spec.specs.Member.Admission.{entered}
@@ -13,15 +13,15 @@ pub returns-then-has-clause-admitting : goal.returns-then-has-clause-admitting
 returns-then-has-clause-admitting c =
     let old = c.args.self.now in
     let here : WaitsIn old.held c.args.new = cc (c.has.ensures, c.if-has.true) in
-    on_ok_then c.enter.result (c.enter.new.self ≡ with_entry old.admission c.args.new) (IsAdmitting (length old.admission.admission.admitted) (record old { admission = c.enter.new.self }))
-    (bring_sound old c.requires.sound c.args.new c.enter.new.self here) c.enter.ensures.entered
+    on_ok_then c.push.result (c.push.new.self ≡ with_entry old.admission c.args.new) (IsAdmitting (length old.admission.admission.admitted) (record old { admission = c.push.new.self }))
+    (bring_sound old c.requires.sound c.args.new c.push.new.self here) c.push.ensures.entered
 
 pub returns-then-has-clause-value : goal.returns-then-has-clause-value
 returns-then-has-clause-value c =
     let old = c.args.self.now in
     let here : WaitsIn old.held c.args.new = cc (c.has.ensures, c.if-has.true) in
-    on_ok_then c.enter.result (c.enter.new.self ≡ with_entry old.admission c.args.new) (coursed (record old { admission = c.enter.new.self }) ≡ brings (coursed old) c.args.new)
-    (λ is. bring_is old c.requires.sound c.args.new c.enter.new.self here is ∙ brings_with (coursed old) c.args.new true here) c.enter.ensures.entered
+    on_ok_then c.push.result (c.push.new.self ≡ with_entry old.admission c.args.new) (coursed (record old { admission = c.push.new.self }) ≡ brings (coursed old) c.args.new)
+    (λ is. bring_is old c.requires.sound c.args.new c.push.new.self here is ∙ brings_with (coursed old) c.args.new true here) c.push.ensures.entered
 
 pub returns-clause-admitting : goal.returns-clause-admitting
 returns-clause-admitting c =
@@ -31,7 +31,7 @@ returns-clause-admitting c =
     subst (λ (hs : List Held). IsWaiting old.store old.admission.admission (hs ++ c.args.new ∷ []) c.hold.new.self) c.as_slice.ensures.value c.in_ok-hold.ensures.ok in
     let sound : IsSound (with_held_now old c.hold-2.new.self c.hold.new.self) = hold_sound old c.args.new c.hold-2.new.self c.hold.new.self c.requires.sound (c.requires.arriving.shape, c.requires.arriving.is) is waits in
     let here : WaitsIn c.hold-2.new.self c.args.new = subst (λ (hs : List Held). WaitsIn hs c.args.new) (sym is) (held_last old.held c.args.new) in
-    bring_sound (with_held_now old c.hold-2.new.self c.hold.new.self) sound c.args.new c.push.new.self here c.in_ok-taken.ensures.entered
+    bring_sound (with_held_now old c.hold-2.new.self c.hold.new.self) sound c.args.new c.push-2.new.self here c.in_ok-taken.ensures.entered
 
 pub returns-clause-value : goal.returns-clause-value
 returns-clause-value c =
@@ -42,6 +42,6 @@ returns-clause-value c =
     let sound : IsSound (with_held_now old c.hold-2.new.self c.hold.new.self) = hold_sound old c.args.new c.hold-2.new.self c.hold.new.self c.requires.sound (c.requires.arriving.shape, c.requires.arriving.is) is waits in
     let here : WaitsIn c.hold-2.new.self c.args.new = subst (λ (hs : List Held). WaitsIn hs c.args.new) (sym is) (held_last old.held c.args.new) in
     let cs = coursed old in
-    bring_is (with_held_now old c.hold-2.new.self c.hold.new.self) sound c.args.new c.push.new.self here c.in_ok-taken.ensures.entered
+    bring_is (with_held_now old c.hold-2.new.self c.hold.new.self) sound c.args.new c.push-2.new.self here c.in_ok-taken.ensures.entered
     ∙ ap (λ (hs : List Held). record cs { held = hs; sequence = record cs.sequence { admission = entered cs.writers cs.opening cs.sequence.admission c.args.new } }) is
     ∙ brings_with cs c.args.new false (cc (c.has.ensures, c.if-has.false))

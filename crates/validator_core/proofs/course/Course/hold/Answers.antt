@@ -1,5 +1,5 @@
 use Rattle.std.proofs.Common.{◌≡◌, ◌∷◌, ◌++◌, [], List, subst}
-use Rattle.answer_types.specs.declared.answers.Held.{Held}
+use Rattle.protocol_spec.specs.declared.answers.Held.{Held}
 use Rattle.exec_plan.specs.Waits.{IsWaiting}
 use Rattle.validator_core.specs.Courses.{IsSound}
 use Rattle.validator_core.proofs.Coursing.{hold_sound, with_held_now}

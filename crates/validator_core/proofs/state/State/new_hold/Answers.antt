@@ -1,5 +1,5 @@
 use Rattle.std.proofs.Common.{◌∙◌, sym}
-use Rattle.scene_spec.specs.Terms.{rules_for}
+use Rattle.world_spec.specs.Terms.{rules_for}
 use Rattle.validator_core.specs.Limits.{terms_at}
 use Rattle.validator_core.proofs.Cases.{hold_meets, hold_new}
 use Rattle.validator_core.proofs.state.State.new_hold.Goals as goal

@@ -1,4 +1,4 @@
-use Rattle.scene_spec.specs.Terms.{rules_for}
+use Rattle.world_spec.specs.Terms.{rules_for}
 use Rattle.validator_core.specs.Limits.{terms_at}
 use Rattle.validator_core.proofs.Cases.{arriving}
 use Rattle.validator_core.proofs.state.State.read_cert.Goals as goal

@@ -2,7 +2,7 @@ use Rattle.std.proofs.Common.{◌≡◌, ◌∙◌, Bool, List, ℕ, ap, sym}
 use Rattle.journal_core.specs.declared.records.Record.{Record}
 use Rattle.journal_core.specs.declared.records.Record.TheVariants as record_as
 use Rattle.protocol_spec.specs.Member.Replay.{is_allowed}
-use Rattle.scene_spec.specs.Terms.{rules_for}
+use Rattle.world_spec.specs.Terms.{rules_for}
 use Rattle.validator_core.specs.Limits.{terms_at}
 use Rattle.validator_core.proofs.Coursing.{ok_as}
 use Rattle.validator_core.proofs.state.State.take.Goals as goal

@@ -1,8 +1,8 @@
 use Rattle.std.proofs.Common.{◌∙◌, ◌+◌, ◌≤◌, List, ap, drop, length, subst, sym}
-use Rattle.answer_types.specs.declared.answers.Held.{Held}
+use Rattle.protocol_spec.specs.declared.answers.Held.{Held}
 use Rattle.epoch_turn.specs.Dues.{front_length, is_ordered}
 use Rattle.protocol_spec.specs.Member.Member.{built}
-use Rattle.scene_spec.specs.Terms.{rules_for}
+use Rattle.world_spec.specs.Terms.{rules_for}
 use Rattle.validator_core.specs.Courses.{coursed}
 use Rattle.validator_core.specs.Entries.{behind_entry, what_as}
 use Rattle.validator_core.specs.Limits.{Accepting, Limited, terms_at}

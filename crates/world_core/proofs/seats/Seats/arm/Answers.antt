@@ -1,5 +1,5 @@
 use Rattle.std.proofs.Common.{ap, sym, subst, ◌∙◌}
-use Rattle.scene_spec.specs.Posts.{Post, armed_at, arming}
+use Rattle.world_spec.specs.Posts.{Post, armed_at, arming}
 use Rattle.world_core.specs.Crews.{Crew, IsPlaced}
 use Rattle.world_core.proofs.Placing.{changed_is, placed_in, whole_with}
 use Rattle.world_core.proofs.seats.Seats.arm.Goals as goal

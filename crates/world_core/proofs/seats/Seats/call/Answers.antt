@@ -1,8 +1,8 @@
 use Rattle.std.proofs.Common.{◌≡◌, subst, ◌∙◌, is_some, set, true}
 use Rattle.std.specs.Prelude.{IfOk, IsErrOf, slice_get}
-use Rattle.scene_spec.specs.Terms.{rules_for}
-use Rattle.scene_spec.specs.Posts.{reached_in, record_left}
-use Rattle.scene_spec.specs.Steps.{standing_at}
+use Rattle.world_spec.specs.Terms.{rules_for}
+use Rattle.world_spec.specs.Posts.{reached_in, record_left}
+use Rattle.world_spec.specs.SceneSteps.{standing_at}
 use Rattle.world_core.specs.declared.reply.SeatFault.TheVariants as faults
 use Rattle.world_core.specs.Crews.{Crew, IsAble, PostsAfter}
 use Rattle.world_core.specs.Replies.{Leaves, Replies}

@@ -1,6 +1,6 @@
 use Rattle.std.proofs.Common.{subst, ◌∙◌, set}
 use Rattle.std.specs.Prelude.{slice_get}
-use Rattle.scene_spec.specs.Terms.{rules_for}
+use Rattle.world_spec.specs.Terms.{rules_for}
 use Rattle.world_core.specs.Crews.{Crew}
 use Rattle.world_core.specs.SeatRestarts.{Restarted}
 use Rattle.world_core.proofs.Restarting.{restarted, whole_restarted}

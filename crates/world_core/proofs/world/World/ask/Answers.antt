@@ -1,8 +1,9 @@
-use Rattle.scene_spec.specs.Scene.{Scene}
+use Rattle.world_spec.specs.Scene.{Scene}
 use Rattle.world_core.specs.Trusts.{trust_by}
 use Rattle.world_core.proofs.Texts.{vote_told}
 use Rattle.protocol_spec.specs.Member.Calls.{votes}
 use Rattle.world_core.proofs.Cuts.{books_seen, cut_seen}
+use Rattle.world_core.proofs.Stated.{unsaid_seen}
 use Rattle.world_core.proofs.world.World.ask.Goals as goal
 
 pub returns-clause-text : goal.returns-clause-text
@@ -15,3 +16,7 @@ returns-clause-cut g c =
 pub returns-clause-books : goal.returns-clause-books
 returns-clause-books g c =
     books_seen (let v : Scene = record { terms = c.self.inside.seats.terms; opening = c.self.inside.opening; known = c.self.inside.directory; sequences = c.self.inside.order.sequences; epoch = c.self.inside.order.epoch; said = c.self.inside.said; certs = c.self.inside.certs; posts = c.self.inside.seats.posts } in v) c.args.self.now c.ask.new.seats.terms c.ask.new.seats.posts c.ask.new.said c.self.view_is c.ask.ensures.terms c.ask.ensures.count
+
+pub returns-clause-unsaid : goal.returns-clause-unsaid
+returns-clause-unsaid g c =
+    unsaid_seen (let v : Scene = record { terms = c.self.inside.seats.terms; opening = c.self.inside.opening; known = c.self.inside.directory; sequences = c.self.inside.order.sequences; epoch = c.self.inside.order.epoch; said = c.self.inside.said; certs = c.self.inside.certs; posts = c.self.inside.seats.posts } in v) c.args.self.now c.ask.new.said c.ask.result c.self.view_is c.ask.ensures.unsaid

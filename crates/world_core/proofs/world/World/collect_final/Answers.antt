@@ -3,10 +3,10 @@ use Rattle.std.specs.Prelude.{option_copied}
 use Rattle.chain_types.specs.Equal.{digest_eq}
 use Rattle.chain_types.specs.declared.transactions.SignedTx.{SignedTx}
 use Rattle.cert_rules.specs.Collecting.{collected_as}
-use Rattle.world_names.specs.Rows.{made_as}
+use Rattle.world_lines.specs.KnownRows.{made_as}
 use Rattle.protocol_spec.specs.Chain.Collecting.{collected}
 use Rattle.world_spec.specs.Step.{ack_in, last_said}
-use Rattle.scene_spec.specs.Scene.{Scene}
+use Rattle.world_spec.specs.Scene.{Scene}
 use Rattle.world_core.specs.Trusts.{trust_by}
 use Rattle.world_core.proofs.Acking.{final_told}
 use Rattle.world_core.proofs.world.World.collect_final.Goals as goal

@@ -2,9 +2,9 @@ use Rattle.std.proofs.Common.{◌∙◌, ap, sym, ◌∷◌, [], option_map}
 use Rattle.std.specs.Prelude.{option_copied}
 use Rattle.report_text.specs.declared.lines.Line.TheVariants as line
 use Rattle.world_spec.specs.Report.{origin_names}
-use Rattle.scene_spec.specs.Known.{world_with}
-use Rattle.world_names.specs.Rows.{made_as}
-use Rattle.scene_spec.specs.Scene.{Scene}
+use Rattle.world_spec.specs.Known.{world_with}
+use Rattle.world_lines.specs.KnownRows.{made_as}
+use Rattle.world_spec.specs.Scene.{Scene}
 use Rattle.world_lines.specs.FalseVotes.{origins_by}
 use Rattle.world_core.proofs.Voting.{false_lines}
 use Rattle.world_core.proofs.world.World.false_vote.Goals as goal

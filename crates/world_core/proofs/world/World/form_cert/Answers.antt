@@ -1,8 +1,8 @@
 use Rattle.std.proofs.Common.{◌∙◌, ap, sym, ◌∷◌, ◌++◌, [], option_map}
 use Rattle.std.specs.Prelude.{option_copied}
 use Rattle.world_spec.specs.World.{Formed}
-use Rattle.world_names.specs.Rows.{made_as}
-use Rattle.scene_spec.specs.Scene.{Scene}
+use Rattle.world_lines.specs.KnownRows.{made_as}
+use Rattle.world_spec.specs.Scene.{Scene}
 use Rattle.world_core.specs.Trusts.{trust_by}
 use Rattle.world_core.proofs.Voting.{collected_here, form_lines, form_others, form_whole}
 use Rattle.world_core.proofs.world.World.form_cert.Goals as goal

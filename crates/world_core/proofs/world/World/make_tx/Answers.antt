@@ -1,6 +1,6 @@
-use Rattle.world_names.specs.Lines.{line_of}
-use Rattle.world_names.specs.Rows.{made_as}
-use Rattle.scene_spec.specs.Scene.{Scene}
+use Rattle.world_lines.specs.Lines.{line_of}
+use Rattle.world_lines.specs.KnownRows.{made_as}
+use Rattle.world_spec.specs.Scene.{Scene}
 use Rattle.world_core.specs.Trusts.{trust_by}
 use Rattle.world_core.proofs.Sound.{tx_made}
 use Rattle.world_core.proofs.world.World.make_tx.Goals as goal

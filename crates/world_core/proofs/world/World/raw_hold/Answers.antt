@@ -1,9 +1,12 @@
 use Rattle.protocol_spec.specs.Member.Calls.{holds}
-use Rattle.scene_spec.specs.Scene.{rules_in}
-use Rattle.scene_spec.specs.Steps.{asks, work_of}
+use Rattle.world_spec.specs.Scene.{rules_in, Scene}
+use Rattle.world_spec.specs.SceneSteps.{asks, work_of, called_scene, steps_to}
 use Rattle.world_core.proofs.Cuts.{scene_ended_on}
-use Rattle.std.proofs.Common.{List, OnErr, subst, ℕ}
+use Rattle.std.proofs.Common.{List, OnErr, subst, ℕ, ◌∙◌, ap}
 use Rattle.world_core.specs.Cuts.{LineCut}
+use Rattle.world_core.specs.Trusts.{trust_by}
+use Rattle.world_core.proofs.Stated.{all_said_on, unsaid}
+use Rattle.schedule_text.specs.declared.words.Event.TheVariants as events
 use Rattle.world_core.proofs.world.World.raw_hold.Goals as goal
 
 pub returns-in-Err-clause-cut : goal.returns-in-Err-clause-cut
@@ -24,3 +27,13 @@ returns-in-Err-clause-books g c =
 pub returns-clause-books : goal.returns-clause-books
 returns-clause-books g c =
     c.in-Ok.ensures.books
+
+pub returns-in-Err-clause-said : goal.returns-in-Err-clause-said
+returns-in-Err-clause-said g c =
+    unsaid (trust_by (g.S.MakesSeals.made c.args.sealer.now) (g.S.Checker.accepts c.args.sealer.now)) c.args.self.now (events.RawHold c.args.member c.args.bytes.now) c.hand.new.self.said c.in-Err.ensures.unsaid
+
+pub returns-clause-said : goal.returns-clause-said
+unfolding steps_to
+returns-clause-said g c =
+    all_said_on (trust_by (g.S.MakesSeals.made c.args.sealer.now) (g.S.Checker.accepts c.args.sealer.now)) c.args.self.now (events.RawHold c.args.member c.args.bytes.now) c.hand.new.self.said c.told.result
+    (ap (λ (x : Scene). x.said) (c.in-Ok.ensures.world ∙ ap (λ (b : List ℕ). called_scene (rules_in (g.S.Checker.accepts c.args.sealer.now) c.args.self.now) c.args.self.now c.args.member (holds b)) c.as_slice.ensures.value))

@@ -1,7 +1,8 @@
-use Rattle.scene_spec.specs.Scene.{Scene}
+use Rattle.world_spec.specs.Scene.{Scene}
 use Rattle.world_core.specs.Trusts.{trust_by}
 use Rattle.protocol_spec.specs.Member.Calls.{closes}
 use Rattle.world_core.proofs.Cuts.{books_seen, cut_seen}
+use Rattle.std.proofs.Common.{ap}
 use Rattle.world_core.proofs.world.World.shut.Goals as goal
 
 pub returns-clause-cut : goal.returns-clause-cut
@@ -11,3 +12,7 @@ returns-clause-cut g c =
 pub returns-clause-books : goal.returns-clause-books
 returns-clause-books g c =
     books_seen (let v : Scene = record { terms = c.self.inside.seats.terms; opening = c.self.inside.opening; known = c.self.inside.directory; sequences = c.self.inside.order.sequences; epoch = c.self.inside.order.epoch; said = c.self.inside.said; certs = c.self.inside.certs; posts = c.self.inside.seats.posts } in v) c.args.self.now c.close.new.seats.terms c.close.new.seats.posts c.self.inside.said c.self.view_is c.close.ensures.terms c.close.ensures.count
+
+pub returns-clause-unsaid : goal.returns-clause-unsaid
+returns-clause-unsaid g c =
+    ap (λ (x : Scene). x.said) c.self.view_is

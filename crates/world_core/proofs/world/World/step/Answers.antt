@@ -1,7 +1,7 @@
 use Rattle.std.proofs.Common.{rules, ◌≡◌, true, List, Ok, Result}
 use Rattle.report_text.specs.declared.lines.Line.{Line}
 use Rattle.schedule_text.specs.declared.words.Event.TheVariants as events
-use Rattle.scene_spec.specs.Steps.{work_of}
+use Rattle.world_spec.specs.SceneSteps.{work_of}
 use Rattle.world_core.specs.Kept.{is_quiet}
 use Rattle.world_core.specs.Trusts.{trust_by}
 use Rattle.world_core.specs.declared.world.WorldFault.{WorldFault}

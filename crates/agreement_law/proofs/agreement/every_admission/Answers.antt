@@ -1,5 +1,0 @@
-use Rattle.agreement_law.proofs.Supply.{every-admission}
-use Rattle.agreement_law.proofs.agreement.every_admission.Goals as goal
-
-pub returns : goal.returns
-returns c = every-admission

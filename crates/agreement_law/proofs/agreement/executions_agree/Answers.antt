@@ -1,5 +1,0 @@
-use Rattle.agreement_law.proofs.Agreeing.{executions-agree}
-use Rattle.agreement_law.proofs.agreement.executions_agree.Goals as goal
-
-pub returns : goal.returns
-returns c = executions-agree

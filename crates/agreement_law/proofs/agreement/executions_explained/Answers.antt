@@ -1,5 +1,0 @@
-use Rattle.agreement_law.proofs.Executing.{executions-explained}
-use Rattle.agreement_law.proofs.agreement.executions_explained.Goals as goal
-
-pub returns : goal.returns
-returns c = executions-explained

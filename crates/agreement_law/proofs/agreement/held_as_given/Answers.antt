@@ -1,5 +1,0 @@
-use Rattle.agreement_law.proofs.Supply.{every-held}
-use Rattle.agreement_law.proofs.agreement.held_as_given.Goals as goal
-
-pub returns : goal.returns
-returns c = every-held

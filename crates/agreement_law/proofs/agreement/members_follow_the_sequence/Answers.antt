@@ -1,5 +1,0 @@
-use Rattle.agreement_law.proofs.Prefixes.{follows}
-use Rattle.agreement_law.proofs.agreement.members_follow_the_sequence.Goals as goal
-
-pub returns : goal.returns
-returns c = follows

@@ -1,5 +1,0 @@
-use Rattle.agreement_law.proofs.Prefixes.{one-sequence}
-use Rattle.agreement_law.proofs.agreement.one_sequence.Goals as goal
-
-pub returns : goal.returns
-returns c = one-sequence

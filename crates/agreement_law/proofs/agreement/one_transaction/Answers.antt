@@ -1,5 +1,0 @@
-use Rattle.agreement_law.proofs.Same.{one-transaction}
-use Rattle.agreement_law.proofs.agreement.one_transaction.Goals as goal
-
-pub returns : goal.returns
-returns c = one-transaction

@@ -1,5 +1,0 @@
-use Rattle.agreement_law.proofs.Known.{opens-apart}
-use Rattle.agreement_law.proofs.current.epochs_open_apart.Goals as goal
-
-pub returns : goal.returns
-returns c = opens-apart

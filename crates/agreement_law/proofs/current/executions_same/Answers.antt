@@ -1,5 +1,0 @@
-use Rattle.agreement_law.proofs.SameSteps.{executions-same}
-use Rattle.agreement_law.proofs.current.executions_same.Goals as goal
-
-pub returns : goal.returns
-returns c = executions-same

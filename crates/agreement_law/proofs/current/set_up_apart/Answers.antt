@@ -1,5 +1,0 @@
-use Rattle.agreement_law.proofs.SetUp.{set-up-apart}
-use Rattle.agreement_law.proofs.current.set_up_apart.Goals as goal
-
-pub returns : goal.returns
-returns c = set-up-apart

@@ -1,6 +1,0 @@
-use Rattle.agreement_law.proofs.Ordered.{steps-orderly}
-use Rattle.agreement_law.proofs.Known.{opens-apart}
-use Rattle.agreement_law.proofs.current.steps_orderly.Goals as goal
-
-pub returns : goal.returns
-returns c = λ s events honest distinct m seat at. steps-orderly s events honest m seat at (opens-apart s events honest distinct m seat at)

@@ -1,5 +1,0 @@
-use Rattle.agreement_law.proofs.Turning.{turns-to-fold}
-use Rattle.agreement_law.proofs.current.turns_to_fold.Goals as goal
-
-pub returns : goal.returns
-returns c = λ s events honest distinct m seat at. turns-to-fold s events m seat at honest distinct

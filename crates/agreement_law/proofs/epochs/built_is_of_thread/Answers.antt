@@ -1,5 +1,0 @@
-use Rattle.agreement_law.proofs.OneList.{built-is-of-thread}
-use Rattle.agreement_law.proofs.epochs.built_is_of_thread.Goals as goal
-
-pub returns : goal.returns
-returns c = built-is-of-thread

@@ -1,5 +1,0 @@
-use Rattle.agreement_law.proofs.AgreedEpochs.{every-checkpoint}
-use Rattle.agreement_law.proofs.epochs.every_checkpoint.Goals as goal
-
-pub returns : goal.returns
-returns c = λ s events honest distinct. every-checkpoint s events honest distinct

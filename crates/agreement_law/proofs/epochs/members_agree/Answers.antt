@@ -1,5 +1,0 @@
-use Rattle.agreement_law.proofs.AgreedEpochs.{members-agree}
-use Rattle.agreement_law.proofs.epochs.members_agree.Goals as goal
-
-pub returns : goal.returns
-returns c = λ s front back honest distinct. members-agree s front back honest distinct

@@ -1,5 +1,0 @@
-use Rattle.agreement_law.proofs.OneList.{one-list}
-use Rattle.agreement_law.proofs.epochs.one_list_of_checkpoints.Goals as goal
-
-pub returns : goal.returns
-returns c = one-list

@@ -1,5 +1,0 @@
-use Rattle.agreement_law.proofs.Opened.{opened-alike}
-use Rattle.agreement_law.proofs.epochs.opened_alike.Goals as goal
-
-pub returns : goal.returns
-returns c = opened-alike

@@ -1,5 +1,0 @@
-use Rattle.agreement_law.proofs.Sums.{set-up-backed}
-use Rattle.agreement_law.proofs.epochs.set_up_is_backed.Goals as goal
-
-pub returns : goal.returns
-returns c = set-up-backed

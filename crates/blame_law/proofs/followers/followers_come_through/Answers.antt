@@ -1,5 +1,0 @@
-use Rattle.blame_law.proofs.Catching.{followers-come-through}
-use Rattle.blame_law.proofs.followers.followers_come_through.Goals as goal
-
-pub returns : goal.returns
-returns c = followers-come-through

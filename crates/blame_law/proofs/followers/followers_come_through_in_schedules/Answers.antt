@@ -1,5 +1,0 @@
-use Rattle.blame_law.proofs.Catching.{come-through-in-schedules}
-use Rattle.blame_law.proofs.followers.followers_come_through_in_schedules.Goals as goal
-
-pub returns : goal.returns
-returns c = come-through-in-schedules

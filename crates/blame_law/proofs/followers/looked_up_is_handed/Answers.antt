@@ -1,5 +1,0 @@
-use Rattle.blame_law.proofs.Looking.{looked-up-is-handed}
-use Rattle.blame_law.proofs.followers.looked_up_is_handed.Goals as goal
-
-pub returns : goal.returns
-returns c = looked-up-is-handed

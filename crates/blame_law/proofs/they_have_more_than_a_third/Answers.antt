@@ -1,5 +1,0 @@
-use Rattle.blame_law.proofs.Heavy.{more-than-a-third}
-use Rattle.blame_law.proofs.they_have_more_than_a_third.Goals as goal
-
-pub returns : goal.returns
-returns c = more-than-a-third

@@ -1,3 +1,0 @@
-pub mod Blame
-pub mod Checked
-pub mod Followed

@@ -1,0 +1,28 @@
+//! What one thread that executes transactions in order keeps: laws over the definition of sequential execution.
+ghost use Rattle.block_law.specs.Kept.{BackedCurrenciesStayBacked, CapsStayInSequence, MoneyMovesInSequence, OnlyGasGoes};
+ghost use Rattle.block_law.specs.Untouched.{UntouchedObjectsStay};
+
+/// Sequential execution leaves every object as it was that no transaction of the list names or creates.
+pub fn untouched_objects_stay()
+    ensures { UntouchedObjectsStay }
+{}
+
+/// For each currency, what all objects hold moves with the supplies of its caps, and with the gas of the executions.
+pub fn money_moves_in_sequence()
+    ensures { MoneyMovesInSequence }
+{}
+
+/// If there is as much of a currency as its caps say, there still is.
+pub fn backed_currencies_stay_backed()
+    ensures { BackedCurrenciesStayBacked }
+{}
+
+/// Of the currency that pays gas nothing is made, and only the gas of the executions goes.
+pub fn only_gas_goes()
+    ensures { OnlyGasGoes }
+{}
+
+/// Of each currency there are as many caps as before.
+pub fn caps_stay_in_sequence()
+    ensures { CapsStayInSequence }
+{}

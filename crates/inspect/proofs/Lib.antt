@@ -1,0 +1,12 @@
+pub mod Copies
+pub mod Statuses
+pub mod Shared
+pub mod Validity
+pub mod Finding
+pub mod Rivals
+pub mod Blaming
+pub mod Asked
+pub mod Ended
+pub mod Digested
+pub mod Fronts
+pub mod Stated

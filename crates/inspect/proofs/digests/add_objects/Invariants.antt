@@ -1,0 +1,7 @@
+use Rattle.std.proofs.Common.{◌≡◌, ◌++◌, take}
+use Rattle.std.specs.List.{flat_map}
+use Rattle.inspect.specs.Digests.{object_line}
+use Rattle.inspect.proofs.digests.add_objects.Given as goal
+
+abbrev pub invariant-loop-object : goal.invariant-loop-object
+invariant-loop-object l = l.text ≡ l.fn.text ++ flat_map (object_line l.names) (take l.object-index l.objects)

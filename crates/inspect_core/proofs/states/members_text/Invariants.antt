@@ -1,9 +1,0 @@
-use Rattle.std.proofs.Common.{◌≡◌, ◌++◌, drop}
-use Rattle.world_core.specs.Crews.{honest_flags}
-use Rattle.inspect_core.specs.Standing.{states_in}
-use Rattle.inspect_core.specs.StateLines.{states_text}
-use Rattle.inspect_core.proofs.states.members_text.Given as goal
-
--- with the members that are left the text is that of all
-abbrev pub invariant-loop-member : goal.invariant-loop-member
-invariant-loop-member l = l.text ++ states_text l.world.known (states_in l.world.posts) l.member (drop l.member (honest_flags l.world.posts)) ≡ states_text l.world.known (states_in l.world.posts) 0 (honest_flags l.world.posts)

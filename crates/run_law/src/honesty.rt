@@ -1,0 +1,18 @@
+//! Schedules that a text says: all that a run of one makes can be encoded, so without lines that hand over bytes as a
+//! certificate no statement is forged.
+ghost use Rattle.run_law.specs.HonestTexts.{NothingReadIsForged, ReadRunsAreSpellable, ReadTransactionsAreSpellable};
+
+/// Each transaction that a read schedule makes is a value of its Rust type, and short enough to be encoded.
+pub fn read_transactions_are_spellable()
+    ensures { ReadTransactionsAreSpellable }
+{}
+
+/// So is each certificate that its run forms, and each entry that it orders.
+pub fn read_runs_are_spellable()
+    ensures { ReadRunsAreSpellable }
+{}
+
+/// Without lines that hand over bytes as a certificate, no statement of its run is forged.
+pub fn nothing_read_is_forged()
+    ensures { NothingReadIsForged }
+{}

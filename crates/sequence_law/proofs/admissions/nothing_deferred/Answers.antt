@@ -1,5 +1,0 @@
-use Rattle.sequence_law.proofs.Deferring.{none-deferred}
-use Rattle.sequence_law.proofs.admissions.nothing_deferred.Goals as goal
-
-pub returns : goal.returns
-returns c = none-deferred

@@ -1,5 +1,0 @@
-use Rattle.sequence_law.proofs.LiveMap.{live-list-is-map}
-use Rattle.sequence_law.proofs.chains.live_list_is_map.Goals as goal
-
-pub returns : goal.returns
-returns c = live-list-is-map

@@ -1,5 +1,0 @@
-use Rattle.sequence_law.proofs.Following.{caps_stay}
-use Rattle.sequence_law.proofs.sequences.caps_stay_in_sequence.Goals as goal
-
-pub returns : goal.returns
-returns c = caps_stay

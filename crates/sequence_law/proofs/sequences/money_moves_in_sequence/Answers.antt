@@ -1,5 +1,0 @@
-use Rattle.sequence_law.proofs.Following.{moves}
-use Rattle.sequence_law.proofs.sequences.money_moves_in_sequence.Goals as goal
-
-pub returns : goal.returns
-returns c = moves

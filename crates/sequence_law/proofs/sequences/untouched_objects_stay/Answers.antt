@@ -1,5 +1,0 @@
-use Rattle.sequence_law.proofs.Staying.{stays}
-use Rattle.sequence_law.proofs.sequences.untouched_objects_stay.Goals as goal
-
-pub returns : goal.returns
-returns c = stays

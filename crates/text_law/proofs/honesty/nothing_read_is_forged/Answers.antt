@@ -1,5 +1,0 @@
-use Rattle.text_law.proofs.Honest.{read-unforged}
-use Rattle.text_law.proofs.honesty.nothing_read_is_forged.Goals as goal
-
-pub returns : goal.returns
-returns c = read-unforged

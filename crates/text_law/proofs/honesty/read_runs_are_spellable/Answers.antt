@@ -1,5 +1,0 @@
-use Rattle.text_law.proofs.Honest.{read-spellable}
-use Rattle.text_law.proofs.honesty.read_runs_are_spellable.Goals as goal
-
-pub returns : goal.returns
-returns c = read-spellable

@@ -1,5 +1,0 @@
-use Rattle.text_law.proofs.Whole.{reads_back}
-use Rattle.text_law.proofs.reading.canonical_text_reads_back.Goals as goal
-
-pub returns : goal.returns
-returns c = reads_back

@@ -1,5 +1,0 @@
-use Rattle.text_law.proofs.Generated.{generated}
-use Rattle.text_law.proofs.reading.generated_text_is_a_schedule.Goals as goal
-
-pub returns : goal.returns
-returns c = generated

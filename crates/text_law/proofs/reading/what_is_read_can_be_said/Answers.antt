@@ -1,5 +1,0 @@
-use Rattle.text_law.proofs.SaidWhole.{text_said}
-use Rattle.text_law.proofs.reading.what_is_read_can_be_said.Goals as goal
-
-pub returns : goal.returns
-returns c = text_said

@@ -1,0 +1,8 @@
+use Rattle.std.proofs.Common.{◌≡◌, drop}
+use Rattle.std.specs.Prelude.{fold}
+use Rattle.world_lines.specs.Openings.{with_flag}
+use Rattle.world_lines.proofs.opening.add_flags.Given as goal
+
+-- the lines that are left add what is missing
+abbrev pub invariant-loop-line : goal.invariant-loop-line
+invariant-loop-line l = fold with_flag l.flags.items (drop l.line-index l.setup) ≡ fold with_flag l.fn.flags.items l.setup

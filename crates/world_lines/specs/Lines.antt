@@ -1,0 +1,15 @@
+-- The words of a line that is lent.
+use Rattle.world_spec.specs.Making.{TxLine}
+use Rattle.world_lines.specs.declared.line.TxLine.{TxLine as Lent}
+
+abbrev pub line_of : Lent → TxLine
+line_of l = record {
+  name = l.name.now;
+  sender = l.sender.now;
+  spoiled = l.spoiled;
+  epoch = l.epoch;
+  gas = l.gas.now;
+  budget = l.budget;
+  inputs = l.inputs.now;
+  commands = l.commands.now;
+}

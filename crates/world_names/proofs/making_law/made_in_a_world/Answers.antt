@@ -1,5 +1,0 @@
-use Rattle.scene_spec.proofs.MadeWorlds.{line_same, transaction_same}
-use Rattle.world_names.proofs.making_law.made_in_a_world.Goals as goal
-
-pub returns : goal.returns
-returns c = record { transaction = transaction_same; made = line_same }

@@ -1,0 +1,289 @@
+-- A line of a schedule as a step of the scene, what it hands to a member, and the lines of the report that it gives.
+-- Source: this profile.
+use Rattle.std.specs.Prelude.{ℕ, zero, suc, min, Bool, false, List, [], ◌∷◌, ◌++◌, map, length, slice_get, Option, Some, None, option_and_then, option_map, if◌then◌else◌}
+use Rattle.digest_core.specs.declared.Digest.{Digest}
+use Rattle.chain_types.specs.declared.objects.ObjectKey.{ObjectKey}
+use Rattle.chain_types.specs.Transactions as transactions
+use Rattle.chain_messages.specs.declared.messages.Certificate.{Certificate}
+use Rattle.chain_messages.specs.declared.messages.Entry.TheVariants as entry
+use Rattle.chain_messages.specs.declared.messages.Statement.{Statement}
+use Rattle.chain_messages.specs.declared.messages.Statement.TheVariants as statement
+use Rattle.chain_messages.specs.Messages as messages
+use Rattle.journal_core.specs.declared.records.Record.{Record}
+use Rattle.outside.specs.Lists.{Journals, KeepsJournals}
+use Rattle.protocol_spec.specs.Chain.Certificates.{Rules}
+use Rattle.protocol_spec.specs.Chain.Words.{first_some}
+use Rattle.schedule_text.specs.declared.words.Event.{Event}
+use Rattle.schedule_text.specs.declared.words.Event.TheVariants as event
+use Rattle.report_text.specs.declared.lines.Line.{Line}
+use Rattle.report_text.specs.declared.lines.Line.TheVariants as line
+use Rattle.report_text.specs.declared.lines.AckText.{AckText}
+use Rattle.report_text.specs.declared.lines.AckText.TheVariants as ack_text
+use Rattle.report_text.specs.declared.lines.SeeText.TheVariants as see_text
+use Rattle.report_text.specs.declared.lines.SendText.{SendText}
+use Rattle.report_text.specs.declared.lines.SendText.TheVariants as send_text
+use Rattle.report_text.specs.declared.lines.ShowText.TheVariants as show_text
+use Rattle.report_text.specs.declared.lines.VoteText.{VoteText}
+use Rattle.report_text.specs.declared.lines.VoteText.TheVariants as vote_text
+use Rattle.protocol_spec.specs.Member.Member.{Fork, Member, fork_of, live_objects}
+use Rattle.protocol_spec.specs.Member.Calls.{Call, votes, holds, sees, runs, closes, ends, turns, acks}
+use Rattle.world_spec.specs.Setting.{Name, Trust}
+use Rattle.world_spec.specs.World.{Made, Reached, World, is_honest, next_call_of, said_by}
+use Rattle.world_spec.specs.Names.{made_named, cert_named, tx_name}
+use Rattle.world_spec.specs.Making.{TxLine, digest_or_zero, held_digest, spoiled_if}
+use Rattle.world_spec.specs.Step.{appended_entry, end_ordered, entries_left, executed_digest, formed, fvoted, open_entries, ordered}
+use Rattle.world_spec.specs.Report.{Lines, ack_reached, and_lines, cert_lines, close_reached, end_reached, entry_reached, final_lines, fvote_lines, hold_reached, none_taken, order_end_said, order_said, run_reached, shown, turn_reached, vote_reached}
+use Rattle.world_spec.specs.Known.{with_line}
+use Rattle.world_spec.specs.MadeLines.{line_made}
+use Rattle.world_spec.specs.Seats.{Seated}
+use Rattle.world_spec.specs.Posts.{AddsAll, AddsFront, Post, armed_at, list_of, posts_behind, reached_in, record_left, stated_in}
+use Rattle.world_spec.specs.Scene.{Scene, bare_setting, bare_world, rules_in}
+
+-- ---- transactions
+
+abbrev pub held_by : ObjectKey → Option Seated → Option Digest
+held_by key None = None
+held_by key (Some seat) = held_digest key seat.state
+
+-- the digest of the version at the lowest-numbered honest member that is up and holds it
+abbrev pub held_in : List Post → ObjectKey → Option Digest
+held_in [] key = None
+held_in (p ∷ posts) key = first_some ((if p.honest then held_by key p.standing else None) ∷ held_in posts key ∷ [])
+
+abbrev pub made_in : Trust → Scene → TxLine → Made
+made_in trust sc l = line_made sc.known (held_in sc.posts) trust.seal l
+
+abbrev pub with_tx : Trust → Scene → TxLine → Scene
+with_tx trust sc l = record sc { known = with_line sc.known l (made_in trust sc l) }
+
+-- ---- calls
+
+abbrev pub called_scene : Rules → Scene → ℕ → Call → Scene
+called_scene r sc m call = record sc {
+  posts = posts_behind r sc.posts m call;
+  said = sc.said ++ map (said_by m) (stated_in r call (reached_in r sc.posts m call));
+}
+
+abbrev pub signed_call : Made → Call
+signed_call t = votes (transactions.signed.spell t.signed)
+
+abbrev pub held_call : Certificate → Call
+held_call c = holds (messages.certificate.spell c)
+
+-- ---- see
+
+abbrev pub standing_at : Option Post → Option Seated
+standing_at None = None
+standing_at (Some p) = p.standing
+
+abbrev pub seat_state : Seated → Member
+seat_state seat = seat.state
+
+-- the state of a member that is up
+abbrev pub state_at : Scene → ℕ → Option Member
+state_at sc m = option_map seat_state (standing_at (slice_get sc.posts m))
+
+-- the next entry of a member that is up, as the call that hands it in
+abbrev pub next_on : Scene → ℕ → Option Call
+next_on sc m = option_and_then (next_call_of (bare_world sc)) (state_at sc m)
+
+abbrev pub called_if : Rules → Scene → ℕ → Option Call → Scene
+called_if r sc m None = sc
+called_if r sc m (Some call) = called_scene r sc m call
+
+-- a member takes so many entries, as far as there are any
+abbrev pub sees_to : Rules → ℕ → Scene → ℕ → Scene
+sees_to r zero sc m = sc
+sees_to r (suc n) sc m = sees_to r n (called_if r sc m (next_on sc m)) m
+
+-- the records that they leave, one after the other
+abbrev pub left_if : Rules → Scene → ℕ → Option Call → List Record
+left_if r sc m None = []
+left_if r sc m (Some call) = list_of (record_left (reached_in r sc.posts m call))
+
+abbrev pub sees_left : Rules → ℕ → Scene → ℕ → List Record
+sees_left r zero sc m = []
+sees_left r (suc n) sc m = left_if r sc m (next_on sc m) ++ sees_left r n (called_if r sc m (next_on sc m)) m
+
+-- ---- what a line hands to a member
+
+-- nothing; one call; or so many entries of its sequence
+pub data Work : Type 0 where
+  idle : Work
+  asks : ℕ → Call → Work
+  hands : ℕ → ℕ → Work
+
+abbrev pub asked : ℕ → Option Call → Work
+asked m None = idle
+asked m (Some call) = asks m call
+
+-- a faulty member is handed nothing
+abbrev pub ack_work : Scene → ℕ → Option Made → Work
+ack_work sc m None = idle
+ack_work sc m (Some t) = if is_honest (bare_world sc) m then asks m (acks t.digest) else idle
+
+unfoldable pub work_of : Scene → Event → Work
+work_of sc (event.Tx name sender spoiled epoch gas budget inputs commands) = idle
+work_of sc (event.Vote m tx) = asked m (option_map signed_call (made_named (bare_world sc) tx))
+work_of sc (event.Fvote m tx origins) = idle
+work_of sc (event.Cert tx members) = idle
+work_of sc (event.Send m tx) = asked m (option_map held_call (cert_named (bare_world sc) tx))
+work_of sc (event.Order tx) = idle
+work_of sc (event.OrderEnd m) = idle
+work_of sc event.OrderCommit = idle
+work_of sc (event.See m entries) = hands m (min entries (entries_left (bare_world sc) (state_at sc m)))
+work_of sc (event.Run m workers) = asks m runs
+work_of sc (event.Close m) = asks m closes
+work_of sc (event.End m) = asks m ends
+work_of sc (event.Turn m) = asks m turns
+work_of sc (event.Show m) = idle
+work_of sc (event.Stop m kept) = idle
+work_of sc (event.Restart m) = idle
+work_of sc (event.RawVote m bytes) = asks m (votes bytes)
+work_of sc (event.RawHold m bytes) = asks m (holds bytes)
+work_of sc (event.Ack m tx spoiled) = ack_work sc m (made_named (bare_world sc) tx)
+work_of sc (event.Final tx members) = idle
+
+-- the scene after it
+abbrev pub worked : Rules → Scene → Work → Scene
+worked r sc idle = sc
+worked r sc (asks m call) = called_scene r sc m call
+worked r sc (hands m n) = sees_to r n sc m
+
+-- the records that it leaves, oldest first, and whose they are
+abbrev pub records_left : Rules → Scene → Work → Option (ℕ × List Record)
+records_left r sc idle = None
+records_left r sc (asks m call) = Some (m, list_of (record_left (reached_in r sc.posts m call)))
+records_left r sc (hands m n) = Some (m, sees_left r n sc m)
+
+-- observable lists after a line: the records that it leaves were added, or nothing
+abbrev pub AddsLine : Option (ℕ × List Record) → Option Journals → Option Journals → Type 0
+AddsLine None before now = KeepsJournals before now
+AddsLine (Some (m, records)) before now = AddsAll before now m records
+
+-- likewise if the line did not end: the first of them were added
+abbrev pub MayAddLine : Option (ℕ × List Record) → Option Journals → Option Journals → Type 0
+MayAddLine None before now = KeepsJournals before now
+MayAddLine (Some (m, records)) before now = AddsFront before now m records
+
+-- ---- the step of a line that reads no records
+
+-- what the sequences and the statements are in this world
+abbrev pub with_order : Scene → World → Scene
+with_order sc w = record sc { sequences = w.sequences; epoch = w.epoch; said = w.said }
+
+-- what the lowest-numbered honest member that is up says, if one says anything
+abbrev pub says_in : {A : Type 0} → (Member → Option A) → List Post → Option A
+says_in says [] = None
+says_in says (p ∷ posts) = first_some ((if p.honest then option_and_then (λ (seat : Seated). says seat.state) p.standing else None) ∷ says_in says posts ∷ [])
+
+-- a faulty member acknowledges what an honest one has
+abbrev pub false_ack_in : Scene → Made → Bool → Statement
+false_ack_in sc t spoiled = statement.Ack t.signed.tx.epoch t.digest (spoiled_if spoiled (digest_or_zero (says_in (executed_digest t.digest) sc.posts)))
+
+abbrev pub acked_in : Rules → Scene → ℕ → Bool → Option Made → Scene
+acked_in r sc m spoiled None = sc
+acked_in r sc m spoiled (Some t) = if is_honest (bare_world sc) m then called_scene r sc m (acks t.digest) else record sc { said = sc.said ++ said_by m (false_ack_in sc t spoiled) ∷ [] }
+
+unfoldable pub steps_to : Trust → Scene → Event → Scene
+steps_to trust sc (event.Tx name sender spoiled epoch gas budget inputs commands) =
+    with_tx trust sc (record { name = name; sender = sender; spoiled = spoiled; epoch = epoch; gas = gas; budget = budget; inputs = inputs; commands = commands })
+steps_to trust sc (event.Vote m tx) = worked (rules_in trust.accepts sc) sc (work_of sc (event.Vote m tx))
+steps_to trust sc (event.Fvote m tx origins) = record sc { said = (fvoted (bare_world sc) m origins (made_named (bare_world sc) tx)).said }
+steps_to trust sc (event.Cert tx members) = record sc { certs = (formed (bare_setting trust sc) (bare_world sc) members (made_named (bare_world sc) tx)).certs }
+steps_to trust sc (event.Send m tx) = worked (rules_in trust.accepts sc) sc (work_of sc (event.Send m tx))
+steps_to trust sc (event.Order tx) = with_order sc (ordered (bare_world sc) (cert_named (bare_world sc) tx))
+steps_to trust sc (event.OrderEnd m) = with_order sc (end_ordered (bare_setting trust sc) (bare_world sc) m)
+steps_to trust sc event.OrderCommit = with_order sc (appended_entry (bare_world sc) entry.Commit)
+steps_to trust sc (event.See m entries) = worked (rules_in trust.accepts sc) sc (work_of sc (event.See m entries))
+steps_to trust sc (event.Run m workers) = called_scene (rules_in trust.accepts sc) sc m runs
+steps_to trust sc (event.Close m) = called_scene (rules_in trust.accepts sc) sc m closes
+steps_to trust sc (event.End m) = called_scene (rules_in trust.accepts sc) sc m ends
+steps_to trust sc (event.Turn m) = called_scene (rules_in trust.accepts sc) sc m turns
+steps_to trust sc (event.Show m) = sc
+steps_to trust sc (event.Stop m kept) = record sc { posts = armed_at sc.posts m kept }
+steps_to trust sc (event.Restart m) = sc
+steps_to trust sc (event.RawVote m bytes) = called_scene (rules_in trust.accepts sc) sc m (votes bytes)
+steps_to trust sc (event.RawHold m bytes) = called_scene (rules_in trust.accepts sc) sc m (holds bytes)
+steps_to trust sc (event.Ack m tx spoiled) = acked_in (rules_in trust.accepts sc) sc m spoiled (made_named (bare_world sc) tx)
+steps_to trust sc (event.Final tx members) = sc
+
+-- ---- the lines
+
+-- what becomes of a call on a member
+abbrev pub comes_to : Trust → Scene → ℕ → Call → Reached
+comes_to trust sc m call = reached_in (rules_in trust.accepts sc) sc.posts m call
+
+abbrev pub vote_text_in : Trust → Scene → ℕ → List ℕ → VoteText
+vote_text_in trust sc m bytes = vote_reached (bare_setting trust sc) (bare_world sc) bytes (comes_to trust sc m (votes bytes))
+
+abbrev pub vote_lines_in : Trust → Scene → ℕ → Name → Option Made → List Line
+vote_lines_in trust sc m tx None = line.Vote m tx vote_text.Down ∷ []
+vote_lines_in trust sc m tx (Some t) = line.Vote m tx (vote_text_in trust sc m (transactions.signed.spell t.signed)) ∷ []
+
+abbrev pub hold_text_in : Trust → Scene → ℕ → List ℕ → SendText
+hold_text_in trust sc m bytes = hold_reached (bare_setting trust sc) (bare_world sc) bytes (comes_to trust sc m (holds bytes))
+
+abbrev pub send_text_in : Trust → Scene → ℕ → Option Certificate → SendText
+send_text_in trust sc m None = send_text.NoCertificate
+send_text_in trust sc m (Some c) = hold_text_in trust sc m (messages.certificate.spell c)
+
+-- the lines of one entry, and whether the line goes on after it
+abbrev pub call_lines_in : Trust → Scene → ℕ → Option Call → Lines
+call_lines_in trust sc m None = ([], false)
+call_lines_in trust sc m (Some (votes bytes)) = ([], false)
+call_lines_in trust sc m (Some (holds bytes)) = ([], false)
+call_lines_in trust sc m (Some (sees number bytes)) = entry_reached (bare_setting trust sc) (bare_world sc) m number bytes (comes_to trust sc m (sees number bytes))
+call_lines_in trust sc m (Some runs) = ([], false)
+call_lines_in trust sc m (Some closes) = ([], false)
+call_lines_in trust sc m (Some ends) = ([], false)
+call_lines_in trust sc m (Some turns) = ([], false)
+call_lines_in trust sc m (Some (acks tx)) = ([], false)
+
+-- so many entries, one after the other
+abbrev pub entries_lines_in : Trust → ℕ → Scene → ℕ → List Line
+entries_lines_in trust zero sc m = []
+entries_lines_in trust (suc n) sc m =
+    and_lines (call_lines_in trust sc m (next_on sc m)) (entries_lines_in trust n (called_if (rules_in trust.accepts sc) sc m (next_on sc m)) m)
+
+-- a halted member says so, also with no entry to take
+abbrev pub see_halted_in : Trust → Scene → ℕ → ℕ → Option Fork → List Line
+see_halted_in trust sc m n (Some fork) = line.See m (see_text.Halted (tx_name (bare_world sc) fork.first) (tx_name (bare_world sc) fork.second)) ∷ []
+see_halted_in trust sc m n None = none_taken m (entries_lines_in trust n sc m)
+
+abbrev pub see_lines_in : Trust → Scene → ℕ → ℕ → Option Member → List Line
+see_lines_in trust sc m n None = line.See m see_text.Down ∷ []
+see_lines_in trust sc m n (Some member) = see_halted_in trust sc m (min n (entries_left (bare_world sc) (Some member))) (fork_of member)
+
+abbrev pub ack_text_in : Trust → Scene → ℕ → Digest → AckText
+ack_text_in trust sc m tx = if is_honest (bare_world sc) m then ack_reached (bare_setting trust sc) (bare_world sc) tx (comes_to trust sc m (acks tx)) else ack_text.Said
+
+abbrev pub ack_lines_in : Trust → Scene → ℕ → Name → Option Made → List Line
+ack_lines_in trust sc m tx None = line.Ack m tx ack_text.Down ∷ []
+ack_lines_in trust sc m tx (Some t) = line.Ack m tx (ack_text_in trust sc m t.digest) ∷ []
+
+abbrev pub show_in : Trust → Scene → ℕ → Option Seated → List Line
+show_in trust sc m (Some seat) = shown (bare_setting trust sc) (bare_world sc) m seat.state.epoch (live_objects seat.state)
+show_in trust sc m None = line.Show m show_text.Down ∷ []
+
+unfoldable pub lines_in : Trust → Scene → Event → List Line
+lines_in trust sc (event.Tx name sender spoiled epoch gas budget inputs commands) = line.TxMade name ∷ []
+lines_in trust sc (event.Vote m tx) = vote_lines_in trust sc m tx (made_named (bare_world sc) tx)
+lines_in trust sc (event.Fvote m tx origins) = fvote_lines (bare_world sc) m tx origins (made_named (bare_world sc) tx)
+lines_in trust sc (event.Cert tx members) = cert_lines (bare_setting trust sc) (bare_world sc) tx members (made_named (bare_world sc) tx)
+lines_in trust sc (event.Send m tx) = line.Send m tx (send_text_in trust sc m (cert_named (bare_world sc) tx)) ∷ []
+lines_in trust sc (event.Order tx) = line.Order tx (order_said (bare_world sc) (cert_named (bare_world sc) tx)) ∷ []
+lines_in trust sc (event.OrderEnd m) = line.OrderEnd m (order_end_said (bare_world sc) m) ∷ []
+lines_in trust sc event.OrderCommit = line.OrderCommit (length (open_entries (bare_world sc))) ∷ []
+lines_in trust sc (event.See m entries) = see_lines_in trust sc m entries (state_at sc m)
+lines_in trust sc (event.Run m workers) = run_reached (bare_setting trust sc) (bare_world sc) m (comes_to trust sc m runs)
+lines_in trust sc (event.Close m) = line.Close m (close_reached (bare_setting trust sc) (bare_world sc) (comes_to trust sc m closes)) ∷ []
+lines_in trust sc (event.End m) = line.End m (end_reached (bare_setting trust sc) (bare_world sc) (comes_to trust sc m ends)) ∷ []
+lines_in trust sc (event.Turn m) = turn_reached (bare_setting trust sc) (bare_world sc) m (comes_to trust sc m turns)
+lines_in trust sc (event.Show m) = show_in trust sc m (standing_at (slice_get sc.posts m))
+lines_in trust sc (event.Stop m kept) = line.Stop m kept ∷ []
+lines_in trust sc (event.Restart m) = []
+lines_in trust sc (event.RawVote m bytes) = line.RawVote m (vote_text_in trust sc m bytes) ∷ []
+lines_in trust sc (event.RawHold m bytes) = line.RawHold m (hold_text_in trust sc m bytes) ∷ []
+lines_in trust sc (event.Ack m tx spoiled) = ack_lines_in trust sc m tx (made_named (bare_world sc) tx)
+lines_in trust sc (event.Final tx members) = final_lines (bare_setting trust sc) (bare_world sc) tx members (made_named (bare_world sc) tx)
