@@ -4,8 +4,6 @@
 #[cfg(test)]
 mod callers;
 #[cfg(test)]
-mod chains;
-#[cfg(test)]
 mod collected;
 #[cfg(test)]
 mod desks;

@@ -45,7 +45,7 @@ fn spoiled() -> Option<Digest> {
 }
 
 /// Runs a line, if the keeper has a list for each member.
-pub(crate) fn step<R: Threads + Sync>(
+fn step<R: Threads + Sync>(
     rt: &R,
     world: &mut World,
     keeper: &mut MemKeeper,
