@@ -26,7 +26,8 @@ turn 1\nturn 2\nclose 1\nclose 2\nend 1\nend 2\norder end 1\norder end 2\nsee 1 
 stop 1 kept\nturn 1\n";
 
 /// The two checkpoints that they build, sealed by both.
-const BUILT: &str = "0200000000000000000000000000000000000000000000000000000000000000000000000000000000000000\
+const BUILT: &str =
+    "0200000000000000000000000000000000000000000000000000000000000000000000000000000000000000\
 000000000000010201000000452d15540aa66c09cc05af4bb4185f17062048f9bb9e664a154954f8c76c7af5\
 02000000414a6426c3f066c62f390ca525e9c0fc051f2f1484ac9f2faee6780459833b760100000000000000\
 0100000000000000063a52a0c270d2f786c3a183f6bafe2690a0de40ac7256105ffe1f76d7edf33000010201\
@@ -34,7 +35,8 @@ const BUILT: &str = "02000000000000000000000000000000000000000000000000000000000
 e7110793a0846c4329a46bbc81f3eaa1eab862db8411e4a636bdb4";
 
 /// The second one is not its epoch's last.
-const OTHER_SECOND: &str = "0200000000000000000000000000000000000000000000000000000000000000000000000000000000000000\
+const OTHER_SECOND: &str =
+    "0200000000000000000000000000000000000000000000000000000000000000000000000000000000000000\
 000000000000010201000000452d15540aa66c09cc05af4bb4185f17062048f9bb9e664a154954f8c76c7af5\
 02000000414a6426c3f066c62f390ca525e9c0fc051f2f1484ac9f2faee6780459833b760100000000000000\
 0100000000000000063a52a0c270d2f786c3a183f6bafe2690a0de40ac7256105ffe1f76d7edf33000000201\
@@ -42,12 +44,14 @@ const OTHER_SECOND: &str = "0200000000000000000000000000000000000000000000000000
 3f29df3cb2bfdd76952b0c764a346285fa278b6611d051a7e379f3";
 
 /// The first one is not its epoch's last.
-const OTHER_FIRST: &str = "0100000000000000000000000000000000000000000000000000000000000000000000000000000000000000\
+const OTHER_FIRST: &str =
+    "0100000000000000000000000000000000000000000000000000000000000000000000000000000000000000\
 0000000000000002010000008ea96f70a4b2906558a8f406281ce6654398125a42de1c8e832a266859300a08\
 02000000763d5b1a513b31ac9ca9d44c7490a828169ea617aa41de7d57681e011d34f6f9";
 
 /// The first one, sealed by members 0 and 2 only, who have four of seven.
-const FEW: &str = "0100000000000000000000000000000000000000000000000000000000000000000000000000000000000000\
+const FEW: &str =
+    "0100000000000000000000000000000000000000000000000000000000000000000000000000000000000000\
 000000000000010200000000751c807a67de23d3e40c711843e30d5db3396e8a49a0e3ea9c88d515f0b82529\
 02000000414a6426c3f066c62f390ca525e9c0fc051f2f1484ac9f2faee6780459833b76";
 
@@ -81,13 +85,42 @@ fn a_chain_is_compared_with_what_members_built(rt: HostRuntime) {
     let rows = [
         (ENDED, BUILT, Agreement::Agrees),
         (ENDED, OTHER_SECOND, Agreement::Agrees),
-        (ENDED, OTHER_FIRST, Agreement::Differs { place: 0, member: 1 }),
-        (ENDED, FEW, Agreement::Refused(ChainRefusal::Bad { place: 0, cause: 5 })),
+        (
+            ENDED,
+            OTHER_FIRST,
+            Agreement::Differs {
+                place: 0,
+                member: 1,
+            },
+        ),
+        (
+            ENDED,
+            FEW,
+            Agreement::Refused(ChainRefusal::Bad { place: 0, cause: 5 }),
+        ),
         (ENDED_TWICE, BUILT, Agreement::Agrees),
-        (ENDED_TWICE, OTHER_SECOND, Agreement::Differs { place: 1, member: 1 }),
-        (STOPPED, OTHER_SECOND, Agreement::Differs { place: 1, member: 2 }),
+        (
+            ENDED_TWICE,
+            OTHER_SECOND,
+            Agreement::Differs {
+                place: 1,
+                member: 1,
+            },
+        ),
+        (
+            STOPPED,
+            OTHER_SECOND,
+            Agreement::Differs {
+                place: 1,
+                member: 2,
+            },
+        ),
     ];
     for (text, digits, agreement) in rows {
-        same(&rt, said_after(&rt, rt.alloc(), text, digits), Some(agreement));
+        same(
+            &rt,
+            said_after(&rt, rt.alloc(), text, digits),
+            Some(agreement),
+        );
     }
 }
