@@ -1,3 +1,4 @@
+use Rattle.std.proofs.Common.{refl}
 use Rattle.version_store.proofs.Opened.{written_over}
 use Rattle.version_store.proofs.store.Store.write.Goals as goal
 
