@@ -128,8 +128,8 @@ OWN = [
 ]
 INNER = [
     (r"  (\S+) done v(\d+) gas (\d+)", "{0} is done: all that it wrote has version {1}, and it paid {2}", ""),
-    (r"  (\S+) failed at (\d+) cause (\d+) v(\d+) gas (\d+)", "{0} failed at command {1}{command} since {cause}; it paid {4} and changed nothing else", "{cause_hint}"),
-    (r"  (\S+) aborted at (\d+) code (\d+) v(\d+) gas (\d+)", "{0}: command {1}{command} aborted with code {2}{code}; it paid {4} and changed nothing else", "{code_hint}"),
+    (r"  (\S+) failed at (\d+) cause (\d+) v(\d+) gas (\d+)", "{0} failed at command {1}{command} since {cause}; it only paid {4} and raised versions", "{cause_hint}"),
+    (r"  (\S+) aborted at (\d+) code (\d+) v(\d+) gas (\d+)", "{0}: command {1}{command} aborted with code {2}{code}; it only paid {4} and raised versions", "{code_hint}"),
     (r"  (\S+) absent (\S+)", "{0} cannot be executed: {1} is not there, or another transaction made it", "its votes named origins that are not true"),
     (r"  (\S+) unfit", "{0} cannot be executed: an object does not fit it", "its votes passed what no honest member would"),
     (r"  (\S+) v(\d+) frozen (.*)", "{0}, version {1}, frozen: {2}", ""),

@@ -118,8 +118,18 @@ fn settle(rt: &HostRuntime, file: &File, path: &str) -> io::Result<()> {
     File::open(rt, folder_of(path))?.sync_all()
 }
 
+/// Whether the bytes of a file of this size may be a log's: the first, if there is one, is a gate, which is closed or open.
+fn may_be_log(file: &File, extent: u64) -> io::Result<bool> {
+    if extent == 0 {
+        return Ok(true);
+    }
+    let mut gate = [0];
+    file.read_exact_at(gate.as_mut_slice(), 0)?;
+    Ok(gate[0] <= 1)
+}
+
 impl FileDisk {
-    /// Opens the file of a path, which is not a symbolic link. No other `FileDisk` has it open then, and the path names it. It
+    /// Opens the file of a path, which is not a symbolic link, for a log: it is empty or begins with 0 or 1. No other `FileDisk` has it open then, and the path names it. It
     /// has met no fault yet. By what the system says it is a plain file of its size. What it holds, and that it is the one at
     /// the path, is in no clause: no contract speaks of the system's files.
     pub fn open(rt: &HostRuntime, path: &str, missing: Missing) -> Result<FileDisk, OpenFault>
@@ -134,6 +144,9 @@ impl FileDisk {
         let extent = opened.len();
         if extent >= LIMIT {
             return Err(OpenFault::TooLarge);
+        }
+        if !may_be_log(&file, extent)? {
+            return Err(OpenFault::NotLog);
         }
         Ok(FileDisk {
             file,

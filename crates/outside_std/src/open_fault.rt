@@ -16,6 +16,8 @@ pub enum OpenFault {
     Replaced,
     /// It has 2^63 bytes or more.
     TooLarge,
+    /// Its first byte is neither 0 nor 1, as that of a log is. To a log its bytes would mean nothing, and be overwritten.
+    NotLog,
     /// What the system says; that the file is missing is one of these.
     System(io::Error),
 }
@@ -34,6 +36,7 @@ impl Display for OpenFault {
             OpenFault::Held => write!(f, "another process has it open"),
             OpenFault::Replaced => write!(f, "another file took its name while it was opened"),
             OpenFault::TooLarge => write!(f, "it is too large"),
+            OpenFault::NotLog => write!(f, "it is not a journal"),
             OpenFault::System(error) => write!(f, "{error}"),
         }
     }

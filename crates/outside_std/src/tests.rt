@@ -19,7 +19,7 @@ const JOURNAL: &str = "file_disk_test_logs/journal";
 /// Writes three bytes, and reads the last two: what was read, or none if a call failed.
 fn two_of_three(disk: &mut FileDisk) -> Option<[u8; 2]> {
     let mut back = [0; 2];
-    if disk.size() != 0 || disk.write_at(0, [7, 8, 9].as_slice()).is_err() {
+    if disk.size() != 0 || disk.write_at(0, [1, 8, 9].as_slice()).is_err() {
         return None;
     }
     if disk.sync().is_err() || disk.size() != 3 {
@@ -66,6 +66,7 @@ fn opening(rt: &HostRuntime, path: &str, missing: Missing) -> &'static str {
         Err(OpenFault::Held) => "held",
         Err(OpenFault::Replaced) => "replaced",
         Err(OpenFault::TooLarge) => "too large",
+        Err(OpenFault::NotLog) => "not a log",
         Err(OpenFault::System(_)) => "system",
     }
 }
@@ -87,6 +88,8 @@ fn a_file_keeps_what_is_written(rt: HostRuntime) -> Result<(), Fail> {
     same(&rt, opening(&rt, PATH, Missing::IsMade), "held");
     drop(disk);
     same(&rt, opening(&rt, PATH, Missing::IsRefused), "opened");
+    fs::write(&rt, PATH, [2].as_slice())?;
+    same(&rt, opening(&rt, PATH, Missing::IsMade), "not a log");
     symlink(&rt, "bytes", LINK)?;
     same(&rt, opening(&rt, LINK, Missing::IsRefused), "link");
     fs::remove_dir_all(&rt, FOLDER)?;

@@ -4,6 +4,8 @@
 #[cfg(test)]
 mod callers;
 #[cfg(test)]
+mod chains;
+#[cfg(test)]
 mod collected;
 #[cfg(test)]
 mod desks;

@@ -8,7 +8,7 @@ use outside::{Keeper, MemKeeper};
 use schedule_text::{Event, Schedule, read_schedule};
 use std::alloc::Global;
 use std::thread::Threads;
-use wire_bcs::{OutOfMemory, Seq};
+use wire_bcs::OutOfMemory;
 use world_core::{Sums, World, WorldFault};
 
 /// A faulty member, and one that is honest.
@@ -71,45 +71,30 @@ fn told_in(world: &World, member: u32) -> Result<Told, OutOfMemory> {
     Ok((world.sums(member)?, seal))
 }
 
-/// Those after these lines.
-fn told_after<R: Threads + Sync>(
-    rt: &R,
-    world: &mut World,
-    keeper: &mut MemKeeper,
-    events: &Seq<Event>,
-    member: u32,
-) -> Result<Told, WorldFault> {
-    for event in events.as_slice() {
-        step(rt, world, keeper, event)?;
-    }
-    match told_in(world, member) {
-        Ok(told) => Ok(told),
-        Err(OutOfMemory) => Err(WorldFault::OutOfMemory),
-    }
-}
-
-/// The same in the world of a schedule.
-fn told_by<R: Threads + Sync>(
+/// The world after the lines of a schedule.
+pub(crate) fn world_after<R: Threads + Sync>(
     rt: &R,
     alloc: Global,
     schedule: &Schedule,
-    member: u32,
-) -> Option<Told> {
+) -> Option<World> {
     let mut keeper = MemKeeper::new(alloc, 64, [].as_slice()).ok()?;
     let Ok(mut world) = World::new(alloc, schedule.setup.as_slice(), &sealer()) else {
         return None;
     };
-    let told = told_after(rt, &mut world, &mut keeper, &schedule.events, member);
-    drop(world);
-    told.ok()
+    for event in schedule.events.as_slice() {
+        step(rt, &mut world, &mut keeper, event).ok()?;
+    }
+    Some(world)
 }
 
-/// Likewise for the schedule that a text is.
+/// Those after the lines of a schedule.
 fn told<R: Threads + Sync>(rt: &R, alloc: Global, text: &str, member: u32) -> Option<Told> {
     let schedule = read_schedule(alloc, text.as_bytes()).ok()?;
-    let told = told_by(rt, alloc, &schedule, member);
+    let world = world_after(rt, alloc, &schedule)?;
     drop(schedule);
-    told
+    let told = told_in(&world, member);
+    drop(world);
+    told.ok()
 }
 
 /// A member that has built no checkpoint.

@@ -62,6 +62,7 @@ fn unopened(fault: &OpenFault) -> &'static [u8] {
         OpenFault::NotPlain => b"journal: not a plain file\n",
         OpenFault::Replaced => b"journal: replaced\n",
         OpenFault::TooLarge => b"journal: too large\n",
+        OpenFault::NotLog => b"journal: not a journal\n",
         OpenFault::System(error) if error.kind() == io::ErrorKind::NotFound => {
             b"journal: missing\n"
         }
