@@ -136,7 +136,7 @@ fn wanting(
     ensures links { IfOk result (λ w. w.links ≡ filter_map (link_in (held_in store.now) numbers.now.keys) (wants_of admission.now.admission held.now)) }
 {
     // An origin is named for each object that is wanted.
-    let mut wants = Seq::with_room(alloc, held.cert.origins.len())?;
+    let mut wants = Seq::with_room(alloc, held.cert.get().origins.len())?;
     let mut links = Seq::new(alloc);
     let mut needs = Needs::of(admission, held);
     while let Some(need) = needs.take_next() {

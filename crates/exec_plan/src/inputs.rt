@@ -48,7 +48,7 @@ fn has_shared_input(tx: &Transaction) -> bool
 pub(crate) fn is_let(admission: &Admission, held: &Held) -> bool
     ensures { result ≡ is_let admission.now.admission held.now }
 {
-    !has_shared_input(&held.cert.tx) || admission.assigned(&held.digest).is_some()
+    !has_shared_input(&held.cert.get().tx) || admission.assigned(&held.digest).is_some()
 }
 
 /// An object that a transaction names: a version, or a shared object and where it begins.
@@ -234,9 +234,9 @@ impl<'a> Wants<'a> {
         Wants {
             admission,
             tx: &held.digest,
-            gas: Some(held.cert.tx.gas.key()),
-            inputs: held.cert.tx.inputs.as_slice(),
-            origins: held.cert.origins.as_slice(),
+            gas: Some(held.cert.get().tx.gas.key()),
+            inputs: held.cert.get().tx.inputs.as_slice(),
+            origins: held.cert.get().origins.as_slice(),
         }
     }
 

@@ -75,7 +75,7 @@ fn keep_done(
     let (hashed, objects) = gave.into_parts();
     effects.push(hashed.copy()?)?;
     let consumed = task.consumed(alloc)?;
-    store.write(hashed, objects, &consumed)
+    store.write(hashed, objects, consumed)
 }
 
 /// Likewise for what came of a task.

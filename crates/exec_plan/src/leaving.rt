@@ -49,7 +49,7 @@ fn may_be_left(store: &Store, admission: &Admission, held: &Held) -> bool
 {
     !store.is_executed(&held.digest)
         && is_let(admission, held)
-        && are_origins_done(store, held.cert.origins.as_slice())
+        && are_origins_done(store, held.cert.get().origins.as_slice())
 }
 
 /// The certificate as it is left, if it is.

@@ -197,7 +197,7 @@ impl<'a> Task<'a> {
     pub(crate) fn consumed(&self, alloc: Global) -> Result<Seq<ObjectKey>, OutOfMemory>
         ensures { IfOk result (λ keys. keys ≡ consumed_keys self.now.tx) }
     {
-        owned_keys(alloc, &self.held.cert.tx)
+        owned_keys(alloc, &self.held.cert.get().tx)
     }
 
     /// What comes of it on these objects.
@@ -209,10 +209,10 @@ impl<'a> Task<'a> {
         ensures { IfOk result (λ outcome. outcome ≡ outcome_with self.now.tx objects.now) }
     {
         let inputs = HashedObject::plain(alloc, objects.as_slice())?;
-        if !fits_hashed(&self.held.cert.tx, objects.as_slice(), inputs.as_slice()) {
+        if !fits_hashed(&self.held.cert.get().tx, objects.as_slice(), inputs.as_slice()) {
             return Ok(Outcome::Unfit);
         }
-        let gave = execute_hashed(alloc, &self.held.cert.tx, &self.held.digest, &inputs)?;
+        let gave = execute_hashed(alloc, &self.held.cert.get().tx, &self.held.digest, &inputs)?;
         Ok(Outcome::Done(gave))
     }
 

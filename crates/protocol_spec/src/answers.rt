@@ -1,6 +1,6 @@
 //! What the calls of a member answer.
 
-use chain_messages::{Certificate, Sealed};
+use chain_messages::{Sealed, SharedCertificate};
 use chain_types::{ObjectId, ObjectKey, Producer};
 use checkpoint_core::HashedCheckpoint;
 use digest_core::Digest;
@@ -102,5 +102,5 @@ pub struct Ran {
 #[derive(Debug, Drop)]
 pub struct Held {
     pub digest: Digest,
-    pub cert: Certificate,
+    pub cert: SharedCertificate,
 }

@@ -4,7 +4,7 @@ ghost use Rattle.std.specs.Prelude.{◌≡◌, []};
 
 use crate::objects::{ALICE, coin, digest, id, key, reference};
 use crate::same::{holds, same};
-use chain_messages::Certificate;
+use chain_messages::{Certificate, SharedCertificate};
 use chain_types::{DecideRefusal, Input, ObjectRef, Transaction, object_digest};
 use digest_core::Digest;
 use lock_table::{LockRefusal, LockTable};
@@ -143,6 +143,7 @@ fn takes(
         origins: Seq::new(alloc),
         seals: Seq::new(alloc),
     };
+    let cert = SharedCertificate::new(alloc, cert)?;
     book.hold(Held { digest, cert })?;
     Ok(true)
 }

@@ -7,7 +7,7 @@ use crate::objects::{ALICE, coin, digest, id, key};
 use crate::same::{holds, same};
 use crate::sequences::is_admitted;
 use crate::stores::{opened, takes};
-use chain_messages::Certificate;
+use chain_messages::{Certificate, SharedCertificate};
 use chain_types::{
     Content, Input, Object, ObjectKey, ObjectRef, Owner, Transaction, object_digest,
 };
@@ -35,27 +35,34 @@ fn counter() -> Object {
 
 /// The certificate under this digest of a transaction that pays with the coin and names these inputs, with this many
 /// origins, none of which is a transaction.
-fn held(alloc: Global, tx: u8, inputs: Seq<Input>, objects: usize) -> Result<Held, OutOfMemory> {
+fn held(
+    alloc: Global,
+    number: u8,
+    inputs: Seq<Input>,
+    objects: usize,
+) -> Result<Held, OutOfMemory> {
     let none = [None, None];
     let origins = Seq::from_slice(alloc, none.get(..objects).unwrap_or_default())?;
-    Ok(Held {
-        digest: digest(tx),
-        cert: Certificate {
-            tx: Transaction {
-                epoch: 0,
-                sender: ALICE,
-                gas: ObjectRef {
-                    id: id(1),
-                    version: 1,
-                    digest: object_digest(&gas()),
-                },
-                budget: 2000,
-                inputs,
-                commands: Seq::new(alloc),
-            },
-            origins,
-            seals: Seq::new(alloc),
+    let tx = Transaction {
+        epoch: 0,
+        sender: ALICE,
+        gas: ObjectRef {
+            id: id(1),
+            version: 1,
+            digest: object_digest(&gas()),
         },
+        budget: 2000,
+        inputs,
+        commands: Seq::new(alloc),
+    };
+    let cert = Certificate {
+        tx,
+        origins,
+        seals: Seq::new(alloc),
+    };
+    Ok(Held {
+        digest: digest(number),
+        cert: SharedCertificate::new(alloc, cert)?,
     })
 }
 

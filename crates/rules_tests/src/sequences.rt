@@ -5,7 +5,7 @@ ghost use Rattle.protocol_spec.specs.Chain.Keys.{objects_of};
 
 use crate::objects::{ALICE, digest, reference};
 use crate::same::{holds, same};
-use chain_messages::Certificate;
+use chain_messages::{Certificate, SharedCertificate};
 use chain_types::{Command, Transaction};
 use std::alloc::Global;
 use std::process::Abort;
@@ -45,6 +45,7 @@ pub(crate) fn is_admitted(alloc: Global, admission: &mut Admission) -> Result<bo
     if check_shape(alloc, &cert.tx).is_err() || admission.is_known(&tx) {
         return Ok(false);
     }
+    let cert = SharedCertificate::new(alloc, cert)?;
     let taken = admission.push(&tx, &cert)?;
     Ok(taken.admitted.as_slice() == [tx].as_slice())
 }

@@ -57,7 +57,7 @@ pub(crate) fn takes(
     if store.is_executed(&effects.effects().tx) || !store.are_new(&objects)? {
         return Ok(false);
     }
-    store.write(effects, objects, &Seq::from_slice(alloc, consumed)?)?;
+    store.write(effects, objects, Seq::from_slice(alloc, consumed)?)?;
     Ok(true)
 }
 

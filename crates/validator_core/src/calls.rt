@@ -25,7 +25,7 @@ use crate::holds::Holding;
 use crate::keeping::{Unkept, append_encoded};
 use crate::state::State;
 use crate::votes::Decision;
-use chain_messages::{Certificate, Sealed, Statement, encode_statement};
+use chain_messages::{Certificate, Sealed, SharedCertificate, Statement, encode_statement};
 use chain_types::Transaction;
 use digest_core::Digest;
 use journal_core::Record;
@@ -71,7 +71,10 @@ fn take(state: &mut State, kept: Record, digest: Digest) -> Result<(), OutOfMemo
 {
     match kept {
         Record::Vote { tx, origins } => state.take_vote(&tx, digest, origins),
-        Record::Hold(cert) => state.take_hold(Held { digest, cert }),
+        Record::Hold(cert) => {
+            let cert = SharedCertificate::new(state.allocator(), cert)?;
+            state.take_hold(Held { digest, cert })
+        }
         Record::See(_bytes) => unreachable!(),
         Record::Ran(_txs) => unreachable!(),
         Record::Ran2(_items) => unreachable!(),

@@ -13,7 +13,9 @@ ghost use Rattle.validator_core.specs.Limits.{terms_at};
 
 use crate::state::State;
 use cert_rules::check_cert;
-use chain_messages::{Certificate, Entry, Sealed, Statement, decode_entry_with, encode_statement};
+use chain_messages::{
+    Certificate, Entry, Sealed, SharedCertificate, Statement, decode_entry_with, encode_statement,
+};
 use chain_types::{CertRefusal, encoded_digest};
 use protocol_spec::{Held, Ignore};
 use quorum_core::{Committee, Sealer, Signer};
@@ -118,6 +120,7 @@ impl State {
         if self.is_ordered(&digest) {
             return Ok(Arrival::Ignores(Ignore::Repeat));
         }
+        let cert = SharedCertificate::new(self.alloc, cert)?;
         Ok(Arrival::Takes(Held { digest, cert }))
     }
 

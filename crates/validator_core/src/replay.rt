@@ -21,7 +21,7 @@ use crate::holds::Holding;
 use crate::runs::ran_items;
 use crate::state::State;
 use cert_rules::same_origins;
-use chain_messages::Certificate;
+use chain_messages::{Certificate, SharedCertificate};
 use chain_types::{Transaction, tx_digest};
 use digest_core::Digest;
 use journal_core::{RanItem, Record};
@@ -108,6 +108,7 @@ impl State {
         match self.hold_on(committee, sealer, &cert, digest) {
             Ok(Holding::Again) => Ok(false),
             Ok(Holding::New(digest) | Holding::Fork { digest, .. }) => {
+                let cert = SharedCertificate::new(self.allocator(), cert)?;
                 self.take_hold(Held { digest, cert })?;
                 Ok(true)
             }

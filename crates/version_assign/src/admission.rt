@@ -15,7 +15,7 @@ use crate::register::Register;
 use crate::shared::shared_objects;
 use crate::taken::Taken;
 use crate::waits::Waits;
-use chain_messages::Certificate;
+use chain_messages::SharedCertificate;
 use chain_types::{Object, ObjectId};
 use digest_core::Digest;
 use indexmap::{IndexMap, IndexSet};
@@ -106,7 +106,7 @@ impl Admission {
     /// versions, Sui Lutris), or dropped if its version would be 2^62 or more, or if a shared input of no origin
     /// was not shared as the epoch opened. So are, in order of arrival, those that waited for it. A refusal changes
     /// nothing.
-    pub fn push(&mut self, tx: &Digest, cert: &Certificate) -> Result<Taken, OutOfMemory>
+    pub fn push(&mut self, tx: &Digest, cert: &SharedCertificate) -> Result<Taken, OutOfMemory>
         requires shaped { shape_fault cert.now.tx ≡ None }
         requires origins { length cert.now.origins ≡ length (objects_of cert.now.tx) }
         requires new { is_known self.old.admission tx.now ≡ false }

@@ -19,7 +19,7 @@ use crate::book::{Admit, Book, Row, push_in_room};
 use crate::excerpt::Candidate;
 use crate::lines::{Line, clear_lines, make_lines};
 use crate::taken::Taken;
-use chain_messages::Certificate;
+use chain_messages::SharedCertificate;
 use chain_types::ObjectId;
 use digest_core::Digest;
 use indexmap::{IndexMap, IndexSet};
@@ -117,12 +117,12 @@ impl Book {
         &self,
         alloc: Global,
         tx: &Digest,
-        cert: &Certificate,
+        cert: &SharedCertificate,
     ) -> Result<Row, OutOfMemory>
         requires { IsKept self.now }
         ensures { IfOk result (λ row. IsRowOf (opening_of self.now) (record { digest = tx.now; cert = cert.now }) row) }
     {
-        let assigned = all_begun(alloc, &self.opening, cert)?;
+        let assigned = all_begun(alloc, &self.opening, cert.get())?;
         let held = Candidate::of(alloc, tx, cert)?;
         Ok(Row { held, assigned })
     }

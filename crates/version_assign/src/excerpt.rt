@@ -5,12 +5,12 @@ ghost use Rattle.protocol_spec.specs.Chain.Keys.{mutable_id};
 ghost use Rattle.protocol_spec.specs.Member.Admission.{mutable_ids};
 ghost use Rattle.version_assign.specs.Lines.{greater_named, named_version};
 
-use chain_messages::Certificate;
+use chain_messages::SharedCertificate;
 use chain_types::{Input, ObjectId};
 use digest_core::Digest;
 use std::alloc::Global;
 use std::marker::Model;
-use wire_bcs::{Duplicate, OutOfMemory};
+use wire_bcs::OutOfMemory;
 
 /// The object that the input writes, if it writes one.
 fn mutable_id(input: &Input) -> Option<ObjectId>
@@ -66,7 +66,7 @@ fn greatest_named(greatest: u64, inputs: &[Input]) -> u64
 /// A certificate in the sequence, with what is looked at of it. Contracts see the certificate.
 #[derive(Drop)]
 pub(crate) struct Excerpt {
-    cert: Certificate,
+    cert: SharedCertificate,
     /// The shared objects that it writes, in input order.
     writes: Vec<ObjectId>,
     /// The greatest version that its gas coin and its inputs name.
@@ -86,13 +86,16 @@ impl Model for Excerpt {
 
 impl Excerpt {
     /// Of this certificate.
-    fn of(alloc: Global, cert: &Certificate) -> Result<Excerpt, OutOfMemory>
+    fn of(alloc: Global, cert: &SharedCertificate) -> Result<Excerpt, OutOfMemory>
         ensures { IfOk result (λ e. e ≡ cert.now) }
     {
+        let tx = &cert.get().tx;
+        let inputs = tx.inputs.as_slice();
+        let writes = written_ids(alloc, inputs)?;
         Ok(Excerpt {
-            cert: cert.copy()?,
-            writes: written_ids(alloc, cert.tx.inputs.as_slice())?,
-            named: greatest_named(cert.tx.gas.version, cert.tx.inputs.as_slice()),
+            cert: cert.share()?,
+            writes,
+            named: greatest_named(tx.gas.version, inputs),
         })
     }
 
@@ -100,7 +103,7 @@ impl Excerpt {
     pub(crate) fn origins(&self) -> &[Option<Digest>]
         ensures { result.now ≡ self.now.origins }
     {
-        self.cert.origins.as_slice()
+        self.cert.get().origins.as_slice()
     }
 
     /// The shared objects that it writes, in input order. Takes no memory.
@@ -138,7 +141,7 @@ impl Candidate {
     pub(crate) fn of(
         alloc: Global,
         tx: &Digest,
-        cert: &Certificate,
+        cert: &SharedCertificate,
     ) -> Result<Candidate, OutOfMemory>
         ensures { IfOk result (λ c. c ≡ record { digest = tx.now; cert = cert.now }) }
     {

@@ -15,7 +15,7 @@ ghost use Rattle.version_assign.specs.Steps.{HasRowRoom, is_free_one};
 use crate::book::{Book, Row};
 use crate::taken::Taken;
 use crate::waits::Waits;
-use chain_messages::Certificate;
+use chain_messages::SharedCertificate;
 use digest_core::Digest;
 use std::alloc::Global;
 use wire_bcs::OutOfMemory;
@@ -121,7 +121,7 @@ impl Register {
         &mut self,
         alloc: Global,
         tx: &Digest,
-        cert: &Certificate,
+        cert: &SharedCertificate,
     ) -> Result<Taken, OutOfMemory>
         requires kept { IsWhole self.old }
         requires shaped { shape_fault cert.now.tx ≡ None }

@@ -70,14 +70,13 @@ impl Store {
         &mut self,
         effects: HashedEffects,
         objects: Seq<HashedObject>,
-        consumed: &Seq<ObjectKey>,
+        consumed: Seq<ObjectKey>,
     ) -> Result<(), OutOfMemory>
         requires first { is_executed self.old.executed effects.tx ≡ false }
         requires new { are_new (held_in self.old) objects ≡ true }
-        ensures ok { OnOk result (self.new ≡ with_execution self.old (executed_as effects objects consumed.now)) }
+        ensures ok { OnOk result (self.new ≡ with_execution self.old (executed_as effects objects consumed)) }
         ensures err { OnErr result (self.new ≡ self.old) }
     {
-        let consumed = Seq::from_slice(self.alloc, consumed.as_slice())?;
         self.maps.make_room(
             objects.as_slice().len(),
             consumed.as_slice().len(),

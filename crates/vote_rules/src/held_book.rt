@@ -71,7 +71,7 @@ fn cert_at(held: &[Held], place: Option<usize>) -> Option<&Certificate>
 {
     match place {
         Some(place) => match held.get(place) {
-            Some(held) => Some(&held.cert),
+            Some(held) => Some(held.cert.get()),
             None => None,
         },
         None => None,
@@ -205,7 +205,7 @@ impl HeldBook {
         ensures ok { OnOk result (self.new ≡ self.old ++ held ∷ []) }
         ensures err { OnErr result (self.new ≡ self.old) }
     {
-        let keys = owned_keys(self.alloc, &held.cert.tx)?;
+        let keys = owned_keys(self.alloc, &held.cert.get().tx)?;
         let fork = self.fork_behind(keys.as_slice(), &held.digest);
         self.held.reserve(1)?;
         self.digests.reserve(1)?;
