@@ -22,7 +22,7 @@ fn vote(alloc: Global, book: &mut SaidBook, member: u32) -> Result<(), OutOfMemo
         tx: TX,
         origins,
     };
-    book.say(member, vote)
+    book.say_sealed(member, vote, Digest([member as u8; 32]))
 }
 
 /// Says votes of the members 0 and 1, and what those of these members for the transaction of the epoch give.

@@ -18,3 +18,4 @@ pub mod MakeAnswers
 pub mod Looks
 pub mod Openings
 pub mod Addressed
+pub mod Exact
