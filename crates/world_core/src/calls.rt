@@ -16,7 +16,7 @@ ghost use Rattle.world_lines.specs.Pushed.{GrowsToward};
 ghost use Rattle.world_spec.specs.Known.{setting_with, world_with};
 ghost use Rattle.world_spec.specs.Posts.{posts_behind, reached_in, record_left, stated_in};
 ghost use Rattle.world_spec.specs.Scene.{bare_setting, bare_world, rules_in};
-ghost use Rattle.world_spec.specs.SceneSteps.{called_scene, voted_scene, hold_text_in, lines_in, steps_to, vote_text_in, work_of};
+ghost use Rattle.world_spec.specs.SceneSteps.{called_scene, hold_text_in, lines_in, steps_to, vote_text_in, voted_scene, work_of};
 ghost use Rattle.world_core.specs.declared.reply.SeatFault.TheVariants as fault;
 ghost use Rattle.world_core.specs.Cuts.{CallCut, LineCut, books_in};
 ghost use Rattle.world_core.specs.Replies.{Leaves};
@@ -51,7 +51,8 @@ fn tell_vote(
     let text = vote_text(directory, &answer)?;
     match answer {
         Ok(voted) => {
-            said.say_sealed(member, voted.sealed.statement, voted.sealed.seal)?;
+            let seal = voted.sealed.seal;
+            said.say_sealed(member, voted.sealed.statement, seal)?;
             Ok(text)
         }
         Err(_refusal) => Ok(text),

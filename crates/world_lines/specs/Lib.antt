@@ -18,4 +18,3 @@ pub mod MakeAnswers
 pub mod Looks
 pub mod Openings
 pub mod Addressed
-pub mod Exact

@@ -7,9 +7,9 @@
 //! End, and its last acknowledgement of a transaction in an epoch; [`SaidBook::collect`] and [`SaidBook::collect_acks`]
 //! say what the last votes and acknowledgements of members give. A [`CertBook`] keeps the certificates under the
 //! names for which they were formed, and finds the last of a name by a map. [`certify`] collects the votes of members
-//! with the seals that they put on them. An [`OrderBook`] keeps the sequences of the epochs, each entry encoded once, and beside them
-//! the Ends of the open epoch: only they say whether it has ended. Each answer is the definition's, one equation a
-//! call.
+//! with the seals that they put on them. An [`OrderBook`] keeps the sequences of the epochs, each entry encoded once,
+//! and beside them the Ends of the open epoch: only they say whether it has ended. Each answer is the definition's, one
+//! equation a call.
 //!
 //! What is known under names in a run, and the transaction that a line makes.
 //!

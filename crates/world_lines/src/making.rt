@@ -5,7 +5,7 @@ ghost use Rattle.digest_core.specs.declared.Digest.{Digest as Seal};
 ghost use Rattle.quorum_core.specs.declared.signer.Signer.{Signer as Who};
 ghost use Rattle.quorum_core.specs.Seals.{keyed_seal};
 ghost use Rattle.chain_types.specs.Transactions as codecs;
-ghost use Rattle.world_lines.specs.Exact.{one_digest};
+ghost use Rattle.protocol_spec.proofs.Equality.{digest_same};
 ghost use Rattle.world_lines.specs.Lines.{line_of};
 ghost use Rattle.world_lines.specs.KnownRows.{made_as};
 ghost use Rattle.world_spec.specs.MadeLines.{line_made, made_by, transaction_by};
@@ -30,13 +30,13 @@ pub trait MakesSeals: Sealer {
         ensures { result ≡ made self.now signer.now bytes.now };
 
     /// A seal that is accepted is the one that is made.
-    ghost exact: { (sealer : Self) (signer : Who) (bytes : List ℕ) (seal : Seal) → Self.Checker.accepts sealer signer bytes seal ≡ true → seal ≡ made sealer signer bytes };
+    ghost exact: { (sealer : Self) (signer : Who) (bytes : List ℕ) (seal : Seal) → Self.accepts sealer signer bytes seal ≡ true → seal ≡ made sealer signer bytes };
 }
 
 impl MakesSeals for KeyedSeal {
     ghost made = { λ sealer signer bytes. keyed_seal sealer.secret signer bytes };
 
-    ghost exact = { λ sealer signer bytes seal accepted. one_digest seal (keyed_seal sealer.secret signer bytes) accepted };
+    ghost exact = { λ sealer signer bytes seal accepted. digest_same seal (keyed_seal sealer.secret signer bytes) accepted };
 
     fn make_seal(&self, signer: &Signer, bytes: &[u8]) -> Digest {
         self.seal(signer, bytes)

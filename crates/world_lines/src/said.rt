@@ -1,11 +1,11 @@
 //! The book of statements.
 
-ghost use Rattle.std.specs.Prelude.{◌≡◌, ◌<◌, ◌++◌, ◌∷◌, [], None, OnErr, OnOk, map, option_and_then, option_copied, option_map, slice_get};
+ghost use Rattle.std.specs.Prelude.{◌≡◌, ◌<◌, ◌++◌, ◌∷◌, [], OnErr, OnOk, map, option_and_then, option_copied, option_map, slice_get};
 ghost use Rattle.std.specs.Vec.{vec_capacity, vec_len};
 ghost use Rattle.world_spec.specs.World.{checkpoint_statement, kept_seal, said_by, said_under};
 ghost use Rattle.world_spec.specs.Step.{ack_in, end_in, last_said, last_seal, the_seal};
 ghost use Rattle.world_lines.specs.Pushed.{GrowsToward};
-ghost use Rattle.world_lines.specs.Rows.{said_with, effects_in, origins_in, row_effects, row_end, row_origins, row_seal, row_statement};
+ghost use Rattle.world_lines.specs.Rows.{effects_in, origins_in, row_effects, row_end, row_origins, row_seal, row_statement, said_with};
 ghost use Rattle.world_lines.specs.SaidVotes.{first_vote, vote_by, vote_if};
 
 use crate::stated::LastPlaces;
