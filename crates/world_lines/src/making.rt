@@ -5,7 +5,6 @@ ghost use Rattle.digest_core.specs.declared.Digest.{Digest as Seal};
 ghost use Rattle.quorum_core.specs.declared.signer.Signer.{Signer as Who};
 ghost use Rattle.quorum_core.specs.Seals.{keyed_seal};
 ghost use Rattle.chain_types.specs.Transactions as codecs;
-ghost use Rattle.protocol_spec.proofs.Equality.{digest_same};
 ghost use Rattle.world_lines.specs.Lines.{line_of};
 ghost use Rattle.world_lines.specs.KnownRows.{made_as};
 ghost use Rattle.world_spec.specs.MadeLines.{line_made, made_by, transaction_by};
@@ -34,6 +33,8 @@ pub trait MakesSeals: Sealer {
 }
 
 impl MakesSeals for KeyedSeal {
+    ghost use Rattle.protocol_spec.proofs.Equality.{digest_same};
+
     ghost made = { λ sealer signer bytes. keyed_seal sealer.secret signer bytes };
 
     ghost exact = { λ sealer signer bytes seal accepted. digest_same seal (keyed_seal sealer.secret signer bytes) accepted };
