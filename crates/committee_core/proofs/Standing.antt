@@ -108,11 +108,11 @@ module _ (s : Setting) (flags : List Bool) where
   step-if true v w one other = one
   step-if false v w one other = other
 
-  step-fvoted : (w : World) (m : ℕ) (words : List (Option Name)) (t : Option Made) → Stand w → Stand (fvoted w m words t)
+  step-fvoted : (w : World) (m : ℕ) (words : List (Option Name)) (t : Option Made) → Stand w → Stand (fvoted s w m words t)
   step-fvoted w m words None q = q
   step-fvoted w m words (Some t) q = step-if (is_honest w m) _ _ q q
 
-  step-formed_as : (w : World) (t : Made) (ms : List ℕ) (c : Collected) → Stand w → Stand (formed_as s w t ms c)
+  step-formed_as : (w : World) (t : Made) (ms : List ℕ) (c : Collected) → Stand w → Stand (formed_as w t ms c)
   step-formed_as w t ms (lacks m) q = q
   step-formed_as w t ms (short weight total) q = q
   step-formed_as w t ms (differ a b) q = q

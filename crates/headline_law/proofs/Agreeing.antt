@@ -19,9 +19,9 @@ use Rattle.protocol_spec.specs.Member.Checkpoints.{digest_before}
 use Rattle.protocol_spec.specs.Member.Member.{built}
 use Rattle.world_spec.specs.Setting.{Setting, Trust, setting_of}
 use Rattle.world_spec.specs.Openings.{opening_at, sequence_of}
-use Rattle.world_spec.specs.World.{Seat, checkpoint_statement, honest_seat, is_honest, member_in, said_by}
+use Rattle.world_spec.specs.World.{Seat, checkpoint_statement, honest_seat, is_honest, member_in}
 use Rattle.world_spec.specs.Run.{world_after}
-use Rattle.world_spec.specs.Assumptions.{FewFaulty, IsHonestRun, IsStated, is_faulty_in}
+use Rattle.world_spec.specs.Assumptions.{FewFaulty, IsHonestRun, IsStated, is_faulty_in, HasSaid}
 use Rattle.safety_law.proofs.Meeting.{two_meet}
 use Rattle.safety_law.proofs.Owner.{honest-after}
 use Rattle.safety_law.proofs.Sound.{get-has}
@@ -54,7 +54,7 @@ module _ (s : Setting) (events : List Event) (few : FewFaulty s) where
 
   -- it has built the checkpoint
   module _ (links : List Link) (chain : IsHonestChain s (world_after s events) links) (l : Link) (there : Has links l) where
-    built-by : (m : ℕ) → is_honest (world_after s events) m ≡ true → Has (world_after s events).said (said_by m (checkpoint_statement l.checkpoint)) → IsBuiltIn s (world_after s events) l.checkpoint
+    built-by : (m : ℕ) → is_honest (world_after s events) m ≡ true → HasSaid (world_after s events) m (checkpoint_statement l.checkpoint) → IsBuiltIn s (world_after s events) l.checkpoint
     built-by m honest told = seated (slice_get (world_after s events).seats m) refl honest
       where
         same_digest : (c : Checkpoint) → checkpoint_statement c ≡ checkpoint_statement l.checkpoint → digest_of_checkpoint c ≡ digest_of_checkpoint l.checkpoint

@@ -35,13 +35,14 @@ use Rattle.protocol_spec.specs.Member.Checkpoints.{chained, checkpoint_behind, h
 use Rattle.protocol_spec.specs.Member.Member.{Member, after, ballot, books, built, held_with, state, vote_for, with_rounds}
 use Rattle.protocol_spec.specs.Member.Calls.{Call, votes, holds, sees, runs, closes, ends, turns, acks, Voted, acknowledged, ack_answer, due, end_answer, end_cases, full, halted, new_vote, new_vote_cases, newly_built, ran_as, ran_item, ran_record, run_answer, run_record, see_after, see_answer, see_cases, see_fork, see_record, seen_as, unsealed_of, vote_again, vote_answer, vote_read, vote_stopped, voted_as}
 use Rattle.world_spec.specs.Setting.{Setting}
-use Rattle.world_spec.specs.World.{Seat, answered_statement, appended, built_statements, checkpoint_statement, ran_statements, said_by, stated, voted_statement}
+use Rattle.world_spec.specs.World.{Seat, answered_statement, appended, built_statements, checkpoint_statement, ran_statements, stated, voted_statement}
 use Rattle.world_spec.specs.Run.{world_after}
 use Rattle.safety_law.proofs.Apart.{state-push}
 use Rattle.safety_law.proofs.Backed.{backed}
 use Rattle.safety_law.proofs.Prefixes.{earlier-saw}
 use Rattle.headline_law.proofs.Along.{chained-more}
 use Rattle.headline_law.proofs.Standing.{front-has}
+use Rattle.world_spec.specs.Assumptions.{HasSaid}
 
 -- ---- more held, executed and cut
 
@@ -292,7 +293,7 @@ module _ (s : Setting) (records : List Record) (st : Statement) where
 
 -- a checkpoint that an honest member stated it has built, under that statement
 pub stated-built : (s : Setting) (events : List Event) (m : ℕ) (seat : Seat) → slice_get (world_after s events).seats m ≡ Some seat → seat.honest ≡ true
-    → (epoch number : ℕ) (digest : Digest) → Has (world_after s events).said (said_by m (statement.Checkpoint epoch number digest)) → IsStatedOf (state s.rules s.opening seat.records) (statement.Checkpoint epoch number digest)
+    → (epoch number : ℕ) (digest : Digest) → HasSaid (world_after s events) m (statement.Checkpoint epoch number digest) → IsStatedOf (state s.rules s.opening seat.records) (statement.Checkpoint epoch number digest)
 stated-built s events m seat at honest epoch number digest h =
     backed s (λ records. Unit {0}) (λ (records : List Record) (st : Statement). HasBuilt (state s.rules s.opening records) st) (λ records call x d p. tt)
     (λ records x st has. subst (λ (p : Member). HasBuilt p st) (sym (state-push s.rules s.opening records x)) (still-built (state s.rules s.opening records) (after s.rules (state s.rules s.opening records) x) st (built-after s.rules (state s.rules s.opening records) x) has))

@@ -23,15 +23,15 @@ use Rattle.protocol_spec.specs.Member.Sequence.{Sequence, What, takes, commits, 
 use Rattle.protocol_spec.specs.Member.Member.{Member, after, state}
 use Rattle.protocol_spec.specs.Member.Calls.{Call, votes, holds, sees, runs, closes, ends, turns, acks, due}
 use Rattle.world_spec.specs.Setting.{Setting}
-use Rattle.world_spec.specs.World.{Seat, World, new_world, said_by, member_in, is_honest}
+use Rattle.world_spec.specs.World.{Seat, World, new_world, member_in, is_honest}
 use Rattle.world_spec.specs.Step.{happens}
 use Rattle.world_spec.specs.Run.{run, world_after}
-use Rattle.world_spec.specs.Assumptions.{calls_of, read_list, entry_ends, ends_read, delivered_ends, all_of, IsUnforgedEnd, NoForgery}
+use Rattle.world_spec.specs.Assumptions.{calls_of, read_list, entry_ends, ends_read, delivered_ends, all_of, IsUnforgedEnd, NoForgery, HasSaid}
 use Rattle.safety_law.proofs.InWorld.{in_world_given}
 use Rattle.safety_law.proofs.Apart.{state-push}
 use Rattle.safety_law.proofs.Once.{has-push}
 use Rattle.safety_law.proofs.Totals.{each-all}
-use Rattle.safety_law.proofs.Grown.{IsGrown, grown-run}
+use Rattle.safety_law.proofs.Grown.{IsGrown, grown-run, said-on}
 use Rattle.safety_law.proofs.Prefixes.{IsSee, due-see}
 
 -- the sealed statements that are read from a call were delivered
@@ -173,15 +173,15 @@ module _ (s : Setting) where
       go (inr h) rest = rest h
 
   pub counted-stated : (events : List Event) → NoForgery s events (new_world s) → (m : ℕ) (seat : Seat) → slice_get (world_after s events).seats m ≡ Some seat
-      → (member : ℕ) → Has (member_in s seat).sequence.counted member → is_honest (world_after s events) member ≡ true → Has (world_after s events).said (said_by member (statement.End (member_in s seat).epoch))
+      → (member : ℕ) → Has (member_in s seat).sequence.counted member → is_honest (world_after s events) member ≡ true → HasSaid (world_after s events) member (statement.End (member_in s seat).epoch)
   unfolding world_after
   counted-stated events none m seat at member h honest = go (counted-given events m seat at member h)
     where
-      go : IsEndGiven s.rules (all_of delivered_ends s events (new_world s)) (member_in s seat).epoch member → Has (run s events (new_world s)).said (said_by member (statement.End (member_in s seat).epoch))
+      go : IsEndGiven s.rules (all_of delivered_ends s events (new_world s)) (member_in s seat).epoch member → HasSaid (run s events (new_world s)) member (statement.End (member_in s seat).epoch)
       go it = told (unforged-at it.of events (new_world s) none it.comes)
         where
-          told : (v : World) × IsUnforgedEnd s v it.of × IsGrown v (run s events (new_world s)) → Has (run s events (new_world s)).said (said_by member (statement.End (member_in s seat).epoch))
+          told : (v : World) × IsUnforgedEnd s v it.of × IsGrown v (run s events (new_world s)) → HasSaid (run s events (new_world s)) member (statement.End (member_in s seat).epoch)
           told (v, unforged, grown) =
               let is = sym (grown.honest it.of.member) ∙ subst (λ (n : ℕ). is_honest (run s events (new_world s)) n ≡ true) (sym it.by) honest in
-              subst (λ (n : ℕ). Has (run s events (new_world s)).said (said_by n (statement.End (member_in s seat).epoch))) it.by
-              (subst (λ (st : Statement). Has (run s events (new_world s)).said (said_by it.of.member st)) it.states (grown.said (said_by it.of.member it.of.statement) (unforged is it.sealed)))
+              subst (λ (n : ℕ). HasSaid (run s events (new_world s)) n (statement.End (member_in s seat).epoch)) it.by
+              (subst (HasSaid (run s events (new_world s)) it.of.member) it.states (said-on v (run s events (new_world s)) grown it.of.member it.of.statement (unforged is it.sealed)))

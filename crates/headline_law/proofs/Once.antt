@@ -15,9 +15,9 @@ use Rattle.protocol_spec.specs.Chain.Committee.{is_among}
 use Rattle.protocol_spec.specs.Member.Versions.{Execution}
 use Rattle.protocol_spec.specs.Member.Member.{books, state}
 use Rattle.world_spec.specs.Setting.{Setting}
-use Rattle.world_spec.specs.World.{Seat, member_in, new_world, said_by}
+use Rattle.world_spec.specs.World.{Seat, member_in, new_world}
 use Rattle.world_spec.specs.Run.{world_after}
-use Rattle.world_spec.specs.Assumptions.{IsFinal, IsHonestRun, all_delivered, delivered, is_faulty_in}
+use Rattle.world_spec.specs.Assumptions.{IsFinal, IsHonestRun, all_delivered, delivered, is_faulty_in, HasSaid}
 use Rattle.safety_law.proofs.Forks.{all-front}
 use Rattle.safety_law.proofs.Fronts.{honest-front}
 use Rattle.safety_law.proofs.Journals.{every-record}
@@ -97,7 +97,7 @@ final-agreed s events run_is distinct epoch tx effects members final front back 
     go : (k : ℕ) × (k < length s.rules.stakes) × (is_among members k ≡ true) × (is_among members k ≡ true) × (is_faulty_in s.honest k ≡ false) → others ≡ effects
     go (k, low, first, second, sound) =
         let there = seat-of s events run_is k (honest-after s events k sound) in
-        let acked = every-ack s events k there.0 there.1 there.2 epoch tx effects (each_has (λ (n : ℕ). Has (world_after s events).said (said_by n (statement.Ack epoch tx effects))) members k final.said (among-has members k first)) in
+        let acked = every-ack s events k there.0 there.1 there.2 epoch tx effects (each_has (λ (n : ℕ). HasSaid (world_after s events) n (statement.Ack epoch tx effects)) members k final.said (among-has members k first)) in
         let l = last-of s events run_is k there.0 there.1 tx epoch effects acked in
         let also = had-at s events run_is k there.0 there.1 tx epoch effects acked l in
         let alike = are-alike s events run_is distinct front l.front back l.back (sym split) l.whole m l.member seat l.seat at l.there (had.epoch_is ∙ sym also.epoch_is) in
@@ -112,7 +112,7 @@ final-once s events run_is tx epoch other effects others members peers one two =
     go : (k : ℕ) × (k < length s.rules.stakes) × (is_among members k ≡ true) × (is_among peers k ≡ true) × (is_faulty_in s.honest k ≡ false) → (epoch ≡ other) × (effects ≡ others)
     go (k, low, first, second, sound) =
         let there = seat-of s events run_is k (honest-after s events k sound) in
-        let acked = every-ack s events k there.0 there.1 there.2 epoch tx effects (each_has (λ (n : ℕ). Has (world_after s events).said (said_by n (statement.Ack epoch tx effects))) members k one.said (among-has members k first)) in
-        let also = every-ack s events k there.0 there.1 there.2 other tx others (each_has (λ (n : ℕ). Has (world_after s events).said (said_by n (statement.Ack other tx others))) peers k two.said (among-has peers k second)) in
+        let acked = every-ack s events k there.0 there.1 there.2 epoch tx effects (each_has (λ (n : ℕ). HasSaid (world_after s events) n (statement.Ack epoch tx effects)) members k one.said (among-has members k first)) in
+        let also = every-ack s events k there.0 there.1 there.2 other tx others (each_has (λ (n : ℕ). HasSaid (world_after s events) n (statement.Ack other tx others)) peers k two.said (among-has peers k second)) in
         let same = one-epoch s events run_is k there.0 there.1 tx epoch other effects others acked also in
         (same, one-effects s events run_is k there.0 there.1 tx epoch effects others acked (subst (λ (e : ℕ). WasOnce s there.0.records (HasExecuted e tx others)) (sym same) also))

@@ -19,7 +19,7 @@ use Rattle.protocol_spec.proofs.Truth.{where_not_true, some_same}
 use Rattle.protocol_spec.specs.Member.Checkpoints.{zero_digest}
 use Rattle.world_spec.specs.Setting.{Name, Setting}
 use Rattle.world_spec.specs.Names.{made_named}
-use Rattle.world_spec.specs.World.{Made, World, said_by}
+use Rattle.world_spec.specs.World.{Made, World}
 use Rattle.world_spec.specs.Step.{ack_in, last_said}
 use Rattle.world_spec.specs.Report.{acks_collected, final_collected, final_lines, lines_of, lines_over}
 use Rattle.safety_law.proofs.Apart.{none-of}
@@ -27,6 +27,7 @@ use Rattle.safety_law.proofs.Steps.{last-said}
 use Rattle.safety_law.proofs.Totals.{each-all}
 use Rattle.safety_law.proofs.Lists.{first-says}
 use Rattle.headline_law.specs.Printed.{IsFinalHere, final_by}
+use Rattle.world_spec.specs.Assumptions.{HasSaid}
 
 -- ---- what collecting the whole says
 
@@ -119,7 +120,7 @@ module _ (s : Setting) (w : World) where
   record AreOfOne (t : Made) (ms : List ℕ) : Type 0 where
     effects : Digest
     quorum : is_quorum s.rules.stakes (weight s.rules.stakes ms) ≡ true
-    said : (m : ℕ) → Has ms m → Has w.said (said_by m (statement.Ack t.signed.tx.epoch t.digest effects))
+    said : (m : ℕ) → Has ms m → HasSaid w m (statement.Ack t.signed.tx.epoch t.digest effects)
 
   module _ (t : Made) where
     abbrev reads : ℕ → Option Digest
@@ -135,7 +136,7 @@ module _ (s : Setting) (w : World) where
           quorum = free-quorum s.rules.stakes reads ms free;
           said = λ m h.
               let told = last-said (ack_in t.signed.tx.epoch t.digest) m w.said one.0 (one.1 m h) in
-              subst (λ (st : Statement). Has w.said (said_by m st)) (is-ack t.signed.tx.epoch t.digest told.0 one.0 told.2) told.1;
+              subst (HasSaid w m) (is-ack t.signed.tx.epoch t.digest told.0 one.0 told.3) (told.1, told.2);
         }
 
   -- only the whole is printed so
@@ -157,7 +158,7 @@ module _ (s : Setting) (w : World) where
     named : made_named w name ≡ Some made
     effects : Digest
     quorum : is_quorum s.rules.stakes (weight s.rules.stakes members) ≡ true
-    said : (m : ℕ) → Has members m → Has w.said (said_by m (statement.Ack made.signed.tx.epoch made.digest effects))
+    said : (m : ℕ) → Has members m → HasSaid w m (statement.Ack made.signed.tx.epoch made.digest effects)
 
   says-final : (name : Name) (asked members : List ℕ) → Has (lines_of s w (event.Final name asked)) (final_by name members) → IsSaidOf name members
   unfolding lines_over
@@ -207,5 +208,5 @@ printed-is-final s w name asked members known h =
       made = it.made;
       named = it.named;
       effects = it.effects;
-      final = record { known = known; quorum = it.quorum; said = each-all (λ m. Has w.said (said_by m (statement.Ack it.made.signed.tx.epoch it.made.digest it.effects))) members it.said };
+      final = record { known = known; quorum = it.quorum; said = each-all (λ m. HasSaid w m (statement.Ack it.made.signed.tx.epoch it.made.digest it.effects)) members it.said };
     }

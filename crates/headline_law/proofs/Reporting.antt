@@ -10,12 +10,12 @@ use Rattle.protocol_spec.proofs.ListLemmas.{has_parts, each_has}
 use Rattle.protocol_spec.specs.Chain.Words.{Each, Has}
 use Rattle.protocol_spec.specs.Chain.Committee.{is_roll}
 use Rattle.world_spec.specs.Setting.{Name, Setting, Trust, setting_of}
-use Rattle.world_spec.specs.World.{World, new_world, said_by}
+use Rattle.world_spec.specs.World.{World, new_world}
 use Rattle.world_spec.specs.Step.{happens}
 use Rattle.world_spec.specs.Report.{lines_of}
 use Rattle.world_spec.specs.Run.{report, report_from, report_of, run, world_after}
-use Rattle.world_spec.specs.Assumptions.{IsHonestRun}
-use Rattle.safety_law.proofs.Grown.{statements-grow}
+use Rattle.world_spec.specs.Assumptions.{IsHonestRun, HasSaid}
+use Rattle.safety_law.proofs.Grown.{statement-grows}
 use Rattle.block_law.specs.Orderly.{AreApart}
 use Rattle.safety_law.proofs.SetUp.{set-up-apart}
 use Rattle.headline_law.specs.Final.{StandsForGood}
@@ -70,9 +70,9 @@ module _ (s : Setting) (events : List Event) (run_is : IsHonestRun s events) (di
   stays : (front back : List Event) → events ≡ front ++ back → (it : IsFinalHere s (world_after s front) name members) → StandsForGood s events it.made.signed.tx.epoch it.made.digest it.effects
   stays front back whole it early late split =
       stands s early late (subst (IsHonestRun s) split run_is) distinct it.made.signed.tx.epoch it.made.digest it.effects members it.final.quorum (λ k h.
-      subst (λ (es : List Event). Has (world_after s es).said (said_by k (statement.Ack it.made.signed.tx.epoch it.made.digest it.effects))) (sym whole ∙ split)
-      (statements-grow s front back (said_by k (statement.Ack it.made.signed.tx.epoch it.made.digest it.effects))
-      (each_has (λ (n : ℕ). Has (world_after s front).said (said_by n (statement.Ack it.made.signed.tx.epoch it.made.digest it.effects))) members k it.final.said h)))
+      subst (λ (es : List Event). HasSaid (world_after s es) k (statement.Ack it.made.signed.tx.epoch it.made.digest it.effects)) (sym whole ∙ split)
+      (statement-grows s front back k (statement.Ack it.made.signed.tx.epoch it.made.digest it.effects)
+      (each_has (λ (n : ℕ). HasSaid (world_after s front) n (statement.Ack it.made.signed.tx.epoch it.made.digest it.effects)) members k it.final.said h)))
 
   was-final : is_roll s.rules.stakes members ≡ true → (it : IsTold s events (new_world s) name members) → WasFinal s events name members
   unfolding world_after

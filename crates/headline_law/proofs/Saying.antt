@@ -35,11 +35,12 @@ use Rattle.protocol_spec.specs.Member.Votes.{Cast, vote_origins}
 use Rattle.protocol_spec.specs.Member.Member.{Member, ballot, vote_for, state}
 use Rattle.protocol_spec.specs.Member.Calls.{Call, votes, holds, sees, runs, closes, ends, turns, acks, Voted, new_vote_cases, voted_as, new_vote, vote_again, unsealed_of, vote_read, vote_stopped, vote_answer, see_answer, run_answer, end_answer, ack_answer, end_cases, unseen, acknowledged, halted, due}
 use Rattle.world_spec.specs.Setting.{Setting}
-use Rattle.world_spec.specs.World.{Seat, appended, stated, said_by, voted_statement, built_statements, ran_statements, answered_statement, checkpoint_statement}
+use Rattle.world_spec.specs.World.{Seat, appended, stated, voted_statement, built_statements, ran_statements, answered_statement, checkpoint_statement}
 use Rattle.world_spec.specs.Run.{world_after}
 use Rattle.safety_law.proofs.Apart.{none-each, none-of}
 use Rattle.safety_law.proofs.Backed.{backed}
 use Rattle.headline_law.specs.Stated.{HasExecuted, IsSettled, MakesStatement, WasOnce}
+use Rattle.world_spec.specs.Assumptions.{HasSaid}
 
 -- ---- every statement
 
@@ -60,7 +61,7 @@ module _ (s : Setting) where
   once-then records P Q more was = record { front = was.front; back = was.back; whole = was.whole; held = more (state s.rules s.opening was.front) was.held }
 
 pub every-statement : (s : Setting) (events : List Event) (m : ℕ) (seat : Seat) → slice_get (world_after s events).seats m ≡ Some seat → seat.honest ≡ true
-    → (st : Statement) → Has (world_after s events).said (said_by m st) → WasOnce s seat.records (MakesStatement s st)
+    → (st : Statement) → HasSaid (world_after s events) m st → WasOnce s seat.records (MakesStatement s st)
 every-statement s events m seat at honest st h =
     backed s (λ records. Unit {0}) (λ (records : List Record) (x : Statement). WasOnce s records (MakesStatement s x)) (λ records call x d p. tt)
     (λ records x st was. once-more s records x (MakesStatement s st) was)
@@ -208,10 +209,10 @@ module _ (r : Rules) (m : Member) (epoch : ℕ) where
 -- ---- in a run
 
 module _ (s : Setting) (events : List Event) (m : ℕ) (seat : Seat) (at : slice_get (world_after s events).seats m ≡ Some seat) (honest : seat.honest ≡ true) where
-  pub every-ack : (epoch : ℕ) (tx effects : Digest) → Has (world_after s events).said (said_by m (statement.Ack epoch tx effects)) → WasOnce s seat.records (HasExecuted epoch tx effects)
+  pub every-ack : (epoch : ℕ) (tx effects : Digest) → HasSaid (world_after s events) m (statement.Ack epoch tx effects) → WasOnce s seat.records (HasExecuted epoch tx effects)
   every-ack epoch tx effects h = once-then s seat.records (MakesStatement s (statement.Ack epoch tx effects)) (HasExecuted epoch tx effects)
       (λ p made. states-ack s.rules p epoch tx effects made.0 made.1) (every-statement s events m seat at honest (statement.Ack epoch tx effects) h)
 
-  pub every-end : (epoch : ℕ) → Has (world_after s events).said (said_by m (statement.End epoch)) → WasOnce s seat.records (IsSettled epoch)
+  pub every-end : (epoch : ℕ) → HasSaid (world_after s events) m (statement.End epoch) → WasOnce s seat.records (IsSettled epoch)
   every-end epoch h = once-then s seat.records (MakesStatement s (statement.End epoch)) (IsSettled epoch)
       (λ p made. states-end s.rules p epoch made.0 made.1) (every-statement s events m seat at honest (statement.End epoch) h)

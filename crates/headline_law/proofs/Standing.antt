@@ -28,11 +28,11 @@ use Rattle.protocol_spec.specs.Member.Checkpoints.{chained, checkpoint_behind, e
 use Rattle.protocol_spec.specs.Member.Member.{Member, built, state}
 use Rattle.schedule_text.specs.declared.words.Setup.{Setup}
 use Rattle.world_spec.specs.Setting.{Setting, Trust, setting_of}
-use Rattle.world_spec.specs.World.{Seat, entries_at, member_in, said_by}
+use Rattle.world_spec.specs.World.{Seat, entries_at, member_in}
 use Rattle.world_spec.specs.Run.{world_after}
-use Rattle.world_spec.specs.Assumptions.{IsFinal, IsHonestRun, is_faulty_in}
+use Rattle.world_spec.specs.Assumptions.{IsFinal, IsHonestRun, is_faulty_in, HasSaid}
 use Rattle.safety_law.proofs.Fronts.{honest-front}
-use Rattle.safety_law.proofs.Grown.{statements-grow}
+use Rattle.safety_law.proofs.Grown.{statement-grows}
 use Rattle.safety_law.proofs.Journals.{every-record}
 use Rattle.safety_law.proofs.Meeting.{two_meet}
 use Rattle.safety_law.proofs.Owner.{honest-after}
@@ -231,7 +231,7 @@ module _ (s : Setting) (events : List Event) (run_is : IsHonestRun s events) (di
 
 module _ (s : Setting) (front back : List Event) (run_is : IsHonestRun s (front ++ back)) (distinct : AreApart s.opening) (epoch : ℕ) (tx effects : Digest) (members : List ℕ)
     (quorum : is_quorum s.rules.stakes (weight s.rules.stakes members) ≡ true)
-    (said : (m : ℕ) → Has members m → Has (world_after s (front ++ back)).said (said_by m (statement.Ack epoch tx effects)))
+    (said : (m : ℕ) → Has members m → HasSaid (world_after s (front ++ back)) m (statement.Ack epoch tx effects))
     (m : ℕ) (seat : Seat) (at : slice_get (world_after s front).seats m ≡ Some seat) (less : epoch < (member_in s seat).epoch) where
   abbrev all : List Event
   all = front ++ back
@@ -258,12 +258,12 @@ module _ (s : Setting) (front back : List Event) (run_is : IsHonestRun s (front 
       subst (IsWhole s.rules) (sym taken.gives) (ends-whole s.rules turner.opening turner.epoch (map messages.entry.spell taken.front) (subst (λ (z : Sequence). z.ended ≡ true) taken.gives left.can.ended))
 
   -- an honest member whose End was counted stated it
-  stated-end : (k : ℕ) → is_faulty_in s.honest k ≡ false → Has turner.sequence.counted k → Has (world_after s all).said (said_by k (statement.End epoch))
+  stated-end : (k : ℕ) → is_faulty_in s.honest k ≡ false → Has turner.sequence.counted k → HasSaid (world_after s all) k (statement.End epoch)
   stated-end k sound h =
       let honest = honest-front s turn.front rest (subst (IsHonestRun s) (sym joined) run_is) in
       let told = counted-stated s turn.front honest.no_forgery turn.member turn.seat turn.there k h (honest-after s turn.front k sound) in
-      subst (λ (es : List Event). Has (world_after s es).said (said_by k (statement.End epoch))) joined
-      (statements-grow s turn.front rest (said_by k (statement.End epoch)) (subst (λ (e : ℕ). Has (world_after s turn.front).said (said_by k (statement.End e))) turn.epoch_is told))
+      subst (λ (es : List Event). HasSaid (world_after s es) k (statement.End epoch)) joined
+      (statement-grows s turn.front rest k (statement.End epoch) (subst (λ (e : ℕ). HasSaid (world_after s turn.front) k (statement.End e)) turn.epoch_is told))
 
   between : IsBetween s all epoch tx effects
   between = go (two_meet s.rules.stakes (is_among turner.sequence.counted) (is_among members) (is_faulty_in s.honest) whole.quorum quorum run_is.few_faulty)
@@ -320,8 +320,8 @@ pub final-stands : (s : Setting) (events : List Event) → IsHonestRun s events 
     → (epoch : ℕ) (tx effects : Digest) (members : List ℕ) → IsFinal s (world_after s events) epoch tx effects members → StandsForGood s events epoch tx effects
 final-stands s events run_is distinct epoch tx effects members final front back split m seat at less =
     stands s front back (subst (IsHonestRun s) split run_is) distinct epoch tx effects members final.quorum
-    (λ k h. subst (λ (es : List Event). Has (world_after s es).said (said_by k (statement.Ack epoch tx effects))) split
-    (each_has (λ (n : ℕ). Has (world_after s events).said (said_by n (statement.Ack epoch tx effects))) members k final.said h)) m seat at less
+    (λ k h. subst (λ (es : List Event). HasSaid (world_after s es) k (statement.Ack epoch tx effects)) split
+    (each_has (λ (n : ℕ). HasSaid (world_after s events) n (statement.Ack epoch tx effects)) members k final.said h)) m seat at less
 
 pub stands-in-schedules : (trust : Trust) (lines : List Setup) (events : List Event) → IsHonestRun (setting_of trust lines) events
     → (epoch : ℕ) (tx effects : Digest) (members : List ℕ) → IsFinal (setting_of trust lines) (world_after (setting_of trust lines) events) epoch tx effects members

@@ -10,9 +10,9 @@ use Rattle.protocol_spec.specs.Chain.Certificates.{Rules}
 use Rattle.protocol_spec.specs.Member.Admission.{is_free}
 use Rattle.protocol_spec.specs.Member.Sequence.{Sequence, seen}
 use Rattle.world_spec.specs.Setting.{Setting}
-use Rattle.world_spec.specs.World.{Seat, new_world, said_by, member_in, is_honest}
+use Rattle.world_spec.specs.World.{Seat, new_world, member_in, is_honest}
 use Rattle.world_spec.specs.Run.{world_after}
-use Rattle.world_spec.specs.Assumptions.{NoForgery}
+use Rattle.world_spec.specs.Assumptions.{NoForgery, HasSaid}
 use Rattle.safety_law.specs.Checkpointed.{admitted_in}
 
 -- no pending certificate is free, whatever was seen
@@ -33,4 +33,4 @@ EndsAreWhole = (r : Rules) (opening : List Object) (epoch : ℕ) (entries : List
 abbrev pub CountedIsStated : Type 0
 CountedIsStated = (s : Setting) (events : List Event) → NoForgery s events (new_world s) → (m : ℕ) (seat : Seat) → slice_get (world_after s events).seats m ≡ Some seat
     → (member : ℕ) → Has (member_in s seat).sequence.counted member → is_honest (world_after s events) member ≡ true
-    → Has (world_after s events).said (said_by member (statement.End (member_in s seat).epoch))
+    → HasSaid (world_after s events) member (statement.End (member_in s seat).epoch)

@@ -14,9 +14,9 @@ use Rattle.protocol_spec.specs.Member.Admission.{is_admitted, is_known}
 use Rattle.protocol_spec.specs.Member.Member.{Member, state}
 use Rattle.protocol_spec.specs.Member.Calls.{Call}
 use Rattle.world_spec.specs.Setting.{Setting}
-use Rattle.world_spec.specs.World.{Seat, stated, said_by, member_in}
+use Rattle.world_spec.specs.World.{Seat, stated, member_in}
 use Rattle.world_spec.specs.Run.{world_after}
-use Rattle.world_spec.specs.Assumptions.{IsHonestRun}
+use Rattle.world_spec.specs.Assumptions.{IsHonestRun, HasSaid}
 
 -- after a prefix of these records P held of the member
 pub record WasOnce (s : Setting) (records : List Record) (P : Member → Type 0) : Type 0 where
@@ -32,7 +32,7 @@ MakesStatement s st m = (call : Call) × Has (stated s.rules m call) st
 -- each statement of an honest member was made in a state in which it was
 abbrev pub EveryStatementWasMade : Type 0
 EveryStatementWasMade = (s : Setting) (events : List Event) (m : ℕ) (seat : Seat) → slice_get (world_after s events).seats m ≡ Some seat → seat.honest ≡ true
-    → (st : Statement) → Has (world_after s events).said (said_by m st) → WasOnce s seat.records (MakesStatement s st)
+    → (st : Statement) → HasSaid (world_after s events) m st → WasOnce s seat.records (MakesStatement s st)
 
 -- in this epoch the member has executed the transaction, with these effects
 pub record HasExecuted (epoch : ℕ) (tx effects : Digest) (m : Member) : Type 0 where
@@ -45,7 +45,7 @@ pub record HasExecuted (epoch : ℕ) (tx effects : Digest) (m : Member) : Type 0
 -- so it had when it acknowledged them
 abbrev pub EveryAckWasExecuted : Type 0
 EveryAckWasExecuted = (s : Setting) (events : List Event) (m : ℕ) (seat : Seat) → slice_get (world_after s events).seats m ≡ Some seat → seat.honest ≡ true
-    → (epoch : ℕ) (tx effects : Digest) → Has (world_after s events).said (said_by m (statement.Ack epoch tx effects)) → WasOnce s seat.records (HasExecuted epoch tx effects)
+    → (epoch : ℕ) (tx effects : Digest) → HasSaid (world_after s events) m (statement.Ack epoch tx effects) → WasOnce s seat.records (HasExecuted epoch tx effects)
 
 -- in this epoch the member has closed, and all that it holds is in the sequence, as far as it has seen it
 pub record IsSettled (epoch : ℕ) (m : Member) : Type 0 where
@@ -56,7 +56,7 @@ pub record IsSettled (epoch : ℕ) (m : Member) : Type 0 where
 -- so it was when it stated that the epoch is to end
 abbrev pub EveryEndWasSettled : Type 0
 EveryEndWasSettled = (s : Setting) (events : List Event) (m : ℕ) (seat : Seat) → slice_get (world_after s events).seats m ≡ Some seat → seat.honest ≡ true
-    → (epoch : ℕ) → Has (world_after s events).said (said_by m (statement.End epoch)) → WasOnce s seat.records (IsSettled epoch)
+    → (epoch : ℕ) → HasSaid (world_after s events) m (statement.End epoch) → WasOnce s seat.records (IsSettled epoch)
 
 -- all that a settled member has executed it has admitted
 abbrev pub ExecutedIsAdmitted : Type 0

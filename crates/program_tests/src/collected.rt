@@ -11,6 +11,9 @@ use world_lines::{Collected, SaidBook};
 
 const TX: Digest = Digest([7; 32]);
 
+/// The seal on each vote; collecting looks at none.
+const SEAL: Digest = Digest([9; 32]);
+
 /// The epoch that the votes name.
 const EPOCH: u64 = 5;
 
@@ -22,7 +25,7 @@ fn vote(alloc: Global, book: &mut SaidBook, member: u32) -> Result<(), OutOfMemo
         tx: TX,
         origins,
     };
-    book.say(member, vote)
+    book.say_sealed(member, vote, SEAL)
 }
 
 /// Says votes of the members 0 and 1, and what those of these members for the transaction of the epoch give.

@@ -42,13 +42,14 @@ use Rattle.protocol_spec.specs.Chain.Words.{first_some, first_of}
 use Rattle.protocol_spec.specs.Member.Member.{Fork, Member, fork_of, live_objects}
 use Rattle.protocol_spec.specs.Member.Calls.{Call, votes, holds, sees, runs, closes, ends, turns, acks, due, vote_answer, hold_answer, see_answer, run_answer, close_answer, end_answer, turn_answer, ack_answer}
 use Rattle.world_spec.specs.Setting.{Name, Setting, User}
-use Rattle.world_spec.specs.World.{Made, Drawn, WorldOf, Seating, Deed, keeps, halts, arms, starts, Reached, finds_down, stops, answers, reached_up, reached_by, reached_where, reached_over, behind_over, called_where, called_over, member_over, next_call_of, next_over, if_called, sees_over, with_seat, state_in, placed, reseated, seat_is, honest_in, says_over}
+use Rattle.world_spec.specs.World.{Made, Drawn, WorldOf, Seating, Deed, keeps, halts, arms, starts, Reached, finds_down, stops, answers, reached_up, reached_by, reached_where, reached_over, behind_over, called_where, called_over, member_over, next_call_of, next_over, if_called, sees_over, with_seat, state_in, placed, reseated, seat_is, honest_in, says_over, sealed_by, stated}
 use Rattle.world_spec.specs.Names.{made_named, cert_named, drawn_by}
 use Rattle.world_spec.specs.Making.{TxLine, digest_or_zero, drawn_input, drawn_list, drawn_word, held_digest, id_of, input_over, made_as, made_over, ref_over, reference_over, spoiled_if, transaction_over, with_made}
 use Rattle.world_spec.specs.Step.{acked_over, appended_entry, end_by, end_in, entries_left, executed_digest, false_ack_over, formed, formed_as, fvoted_by, happens_over, has_ended, honest_end, last_said, no_origins, on_seat, open_entries, ordered, ordered_end, origin_word, origins_by, origins_or, risen_if, says, sealed_end, sent_over, vote_by, vote_in, voted_over, votes_collected}
 use Rattle.world_spec.specs.Report.{Lines, ack_lines, ack_reached, ack_said, acks_collected, and_lines, call_lines, cert_lines, close_reached, end_reached, entries_lines, entry_reached, final_lines, fvote_lines_by, hold_reached, hold_said, honest_end_said, lines_over, none_taken, order_end_by, order_said, origin_name, origin_names, run_reached, see_halted, see_up, send_said, show_up, turn_reached, vote_lines, vote_reached, vote_said}
 use Rattle.world_spec.specs.SceneWorlds.{is_restart}
 use Rattle.world_spec.proofs.LineWorlds.{ack_same, close_same, end_same, hold_same, run_same, see_same, shown_same, turn_same, vote_same}
+use Rattle.quorum_core.specs.declared.signer.Signer.{Signer}
 
 abbrev pub is_start : Deed → Bool
 is_start (keeps x) = false
@@ -64,6 +65,7 @@ pub record IsCarried {A B : Type 0} (a : Seating A) (b : Seating B) (h : ℕ →
   pub state : (k : ℕ) (x : A) → a.up x ≡ true → a.state x ≡ b.state (h k x)
   pub acts : (k : ℕ) (x : A) (d : Deed) → is_start d ≡ false → h k (a.acts x d) ≡ b.acts (h k x) d
   pub stays : (x : A) (y : Option Record) → a.up (a.acts x (keeps y)) ≡ a.up x
+  pub seal : a.seal ≡ b.seal
 
 -- the same rules, things and seals, and whatever else
 abbrev pub aside : Setting → List Bool → List Object → List User → Setting
@@ -191,7 +193,8 @@ module _ {A B : Type 0} (a : Seating A) (b : Seating B) (h : ℕ → A → B) (s
   behind-looks w m call x finds_down = refl
   behind-looks w m call x (stops kept y) = set-looks w m x (halts kept y) refl
   behind-looks w m call x (answers before y) =
-      ap (λ (v : WorldOf B). record v { said = (behind_over b r (look w) m call (at_place m x) (answers before y)).said }) (set-looks w m x (keeps y) refl)
+      ap (λ (seal : Signer → List ℕ → Digest). record (look (with_seat w m (a.acts x (keeps y)))) { said = w.said ++ map (sealed_by seal m) (stated r before call) }) carried.seal
+      ∙ ap (λ (v : WorldOf B). record v { said = (behind_over b r (look w) m call (at_place m x) (answers before y)).said }) (set-looks w m x (keeps y) refl)
 
   where-looks : (w : WorldOf A) (m : ℕ) (call : Call) (o : Option A) → look (called_where a r w m call o) ≡ called_where b r (look w) m call (option_map (at_place m) o)
   where-looks w m call None = refl
@@ -272,7 +275,7 @@ module _ {A B : Type 0} (a : Seating A) (b : Seating B) (h : ℕ → A → B) (s
   sent-looks w m None = refl
   sent-looks w m (Some c) = called-looks w m (holds (messages.certificate.spell c))
 
-  formed-as : (w : WorldOf A) (x : Made) (ms : List ℕ) (c : Collected) → look (formed_as s w x ms c) ≡ formed_as t (look w) x ms c
+  formed-as : (w : WorldOf A) (x : Made) (ms : List ℕ) (c : Collected) → look (formed_as w x ms c) ≡ formed_as (look w) x ms c
   formed-as w x ms (lacks m) = refl
   formed-as w x ms (short weight total) = refl
   formed-as w x ms (differ o p) = refl
@@ -376,16 +379,16 @@ module _ {A B : Type 0} (a : Seating A) (b : Seating B) (h : ℕ → A → B) (s
   origins-look w x [] = ap (λ (found : Option (List (Option Digest))). origins_or (no_origins x.signed.tx) found) (votes-look w x 0 0 w.seats)
   origins-look w x (word ∷ words) = ap (λ (f : Option Name → Option Digest). map f (word ∷ words)) (λ i o. origin-looks w o i)
 
-  says-if : (w : WorldOf A) (m : ℕ) (st : Statement) (honest : Bool) → look (cond honest w (says w m st)) ≡ cond honest (look w) (says (look w) m st)
+  says-if : (w : WorldOf A) (m : ℕ) (st : Statement) (honest : Bool) → look (cond honest w (says s.seal w m st)) ≡ cond honest (look w) (says s.seal (look w) m st)
   says-if w m st true = refl
   says-if w m st false = refl
 
-  fvoted-looks : (w : WorldOf A) (m : ℕ) (words : List (Option Name)) (x : Option Made) → look (fvoted_by a.honest w m words x) ≡ fvoted_by b.honest (look w) m words x
+  fvoted-looks : (w : WorldOf A) (m : ℕ) (words : List (Option Name)) (x : Option Made) → look (fvoted_by a.honest s w m words x) ≡ fvoted_by b.honest t (look w) m words x
   fvoted-looks w m words None = refl
   fvoted-looks w m words (Some x) =
       says-if w m (statement.Vote x.signed.tx.epoch x.digest (origins_by a.honest w x words)) (honest_in a.honest w m)
-      ∙ ap (λ (honest : Bool). cond honest (look w) (says (look w) m (statement.Vote x.signed.tx.epoch x.digest (origins_by a.honest w x words)))) (honest-looks w m)
-      ∙ ap (λ (origins : List (Option Digest)). cond (honest_in b.honest (look w) m) (look w) (says (look w) m (statement.Vote x.signed.tx.epoch x.digest origins))) (origins-look w x words)
+      ∙ ap (λ (honest : Bool). cond honest (look w) (says s.seal (look w) m (statement.Vote x.signed.tx.epoch x.digest (origins_by a.honest w x words)))) (honest-looks w m)
+      ∙ ap (λ (origins : List (Option Digest)). cond (honest_in b.honest (look w) m) (look w) (says s.seal (look w) m (statement.Vote x.signed.tx.epoch x.digest origins))) (origins-look w x words)
 
   -- ---- the order
 
@@ -413,28 +416,28 @@ module _ {A B : Type 0} (a : Seating A) (b : Seating B) (h : ℕ → A → B) (s
   honest-end w m (Some epoch) = end-if w m epoch (epoch == w.epoch)
 
   ends-by : (w : WorldOf A) (m : ℕ) (honest : Bool)
-      → look (cond honest (honest_end s w m (last_said end_in m w.said)) (ordered_end s (says w m (statement.End w.epoch)) m w.epoch))
-      ≡ cond honest (honest_end t (look w) m (last_said end_in m w.said)) (ordered_end t (says (look w) m (statement.End w.epoch)) m w.epoch)
+      → look (cond honest (honest_end s w m (last_said end_in m w.said)) (ordered_end s (says s.seal w m (statement.End w.epoch)) m w.epoch))
+      ≡ cond honest (honest_end t (look w) m (last_said end_in m w.said)) (ordered_end t (says s.seal (look w) m (statement.End w.epoch)) m w.epoch)
   ends-by w m true = honest-end w m (last_said end_in m w.said)
-  ends-by w m false = end-looks (says w m (statement.End w.epoch)) m w.epoch
+  ends-by w m false = end-looks (says s.seal w m (statement.End w.epoch)) m w.epoch
 
   end-order-looks : (w : WorldOf A) (m : ℕ) → look (end_by a.honest s w m) ≡ end_by b.honest t (look w) m
   end-order-looks w m =
       ends-by w m (honest_in a.honest w m)
-      ∙ ap (λ (honest : Bool). cond honest (honest_end t (look w) m (last_said end_in m w.said)) (ordered_end t (says (look w) m (statement.End w.epoch)) m w.epoch)) (honest-looks w m)
+      ∙ ap (λ (honest : Bool). cond honest (honest_end t (look w) m (last_said end_in m w.said)) (ordered_end t (says s.seal (look w) m (statement.End w.epoch)) m w.epoch)) (honest-looks w m)
 
   -- ---- acknowledgements
 
   acks-if : (w : WorldOf A) (m : ℕ) (x : Made) (spoiled honest : Bool)
-      → look (cond honest (called_over a r w m (acks x.digest)) (says w m (false_ack_over a w x spoiled))) ≡ cond honest (called_over b r (look w) m (acks x.digest)) (says (look w) m (false_ack_over b (look w) x spoiled))
+      → look (cond honest (called_over a r w m (acks x.digest)) (says a.seal w m (false_ack_over a w x spoiled))) ≡ cond honest (called_over b r (look w) m (acks x.digest)) (says b.seal (look w) m (false_ack_over b (look w) x spoiled))
   acks-if w m x spoiled true = called-looks w m (acks x.digest)
-  acks-if w m x spoiled false = ap (λ (d : Option Digest). says (look w) m (statement.Ack x.signed.tx.epoch x.digest (spoiled_if spoiled (digest_or_zero d)))) (says-looks (executed_digest x.digest) 0 w.seats)
+  acks-if w m x spoiled false = ap (λ (d : Option Digest). says b.seal (look w) m (statement.Ack x.signed.tx.epoch x.digest (spoiled_if spoiled (digest_or_zero d)))) (says-looks (executed_digest x.digest) 0 w.seats)
 
   acked-looks : (w : WorldOf A) (m : ℕ) (spoiled : Bool) (x : Option Made) → look (acked_over a r w m spoiled x) ≡ acked_over b r (look w) m spoiled x
   acked-looks w m spoiled None = refl
   acked-looks w m spoiled (Some x) =
       acks-if w m x spoiled (honest_in a.honest w m)
-      ∙ ap (λ (honest : Bool). cond honest (called_over b r (look w) m (acks x.digest)) (says (look w) m (false_ack_over b (look w) x spoiled))) (honest-looks w m)
+      ∙ ap (λ (honest : Bool). cond honest (called_over b r (look w) m (acks x.digest)) (says b.seal (look w) m (false_ack_over b (look w) x spoiled))) (honest-looks w m)
 
   -- ---- each line but a restart
 

@@ -39,7 +39,7 @@ module _ (s : Setting) where
   acts-same k seat (arms kept) other = refl
   acts-same k seat starts other = absurd (cc)
 
-  pub records-carried : IsCarried (by_records s) (by_posts s.rules) (post_of s)
+  pub records-carried : IsCarried (by_records s) (by_posts s.seal s.rules) (post_of s)
   records-carried = record {
     honest = λ k seat. refl;
     up = λ k seat. up-same k (member_in s seat) seat.up;
@@ -47,10 +47,11 @@ module _ (s : Setting) where
     state = λ k seat is. state-same k (member_in s seat) seat.up is;
     acts = acts-same;
     stays = λ seat x. refl;
+    seal = refl;
   }
 
-  pub posts-step : (w : World) (e : Event) → is_restart e ≡ false → reseated (post_of s) (happens s w e) ≡ happens_over (by_posts s.rules) s (reseated (post_of s) w) e
-  posts-step = step-looks (by_records s) (by_posts s.rules) (post_of s) s s.honest s.opening s.users records-carried
+  pub posts-step : (w : World) (e : Event) → is_restart e ≡ false → reseated (post_of s) (happens s w e) ≡ happens_over (by_posts s.seal s.rules) s (reseated (post_of s) w) e
+  posts-step = step-looks (by_records s) (by_posts s.seal s.rules) (post_of s) s s.honest s.opening s.users records-carried
 
-  pub posts-lines : (w : World) (e : Event) → is_restart e ≡ false → lines_of s w e ≡ lines_over (by_posts s.rules) s (reseated (post_of s) w) e
-  posts-lines = lines-look (by_records s) (by_posts s.rules) (post_of s) s s.honest s.opening s.users records-carried
+  pub posts-lines : (w : World) (e : Event) → is_restart e ≡ false → lines_of s w e ≡ lines_over (by_posts s.seal s.rules) s (reseated (post_of s) w) e
+  posts-lines = lines-look (by_records s) (by_posts s.seal s.rules) (post_of s) s s.honest s.opening s.users records-carried

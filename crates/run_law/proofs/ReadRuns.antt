@@ -3,7 +3,7 @@ use Rattle.std.proofs.Common.{refl, ap, sym, subst, arith, ◌∙◌}
 use Rattle.std.proofs.lemmas.Bool.{eqb-true}
 use Rattle.std.proofs.lemmas.List.{length-map}
 use Rattle.std.proofs.lemmas.List.Elements.{All-from_recursion}
-use Rattle.std.specs.Prelude.{◌≡◌, ℕ, ◌+◌, ◌≤◌, zero, suc, min, Bool, true, false, cond, ◌&&◌, ◌==◌, List, [], ◌∷◌, ◌++◌, map, length, slice_get, Option, Some, None, option_map, bytes_eq}
+use Rattle.std.specs.Prelude.{◌≡◌, ℕ, ◌+◌, ◌≤◌, zero, suc, min, Bool, true, false, cond, ◌&&◌, ◌==◌, List, [], ◌∷◌, ◌++◌, map, length, slice_get, Option, Some, None, option_map, bytes_eq, option_and_then}
 use Rattle.std.specs.List.{AllByRecursion, enumerate_from}
 use Rattle.wire_bcs.specs.Digests.{digest}
 use Rattle.digest_core.specs.declared.Digest.{Digest}
@@ -30,15 +30,15 @@ use Rattle.protocol_spec.specs.Chain.Words.{Each, first_some, first_of, where_tr
 use Rattle.protocol_spec.specs.Chain.Keys.{objects_of}
 use Rattle.protocol_spec.specs.Member.Member.{Member, state}
 use Rattle.protocol_spec.specs.Member.Calls.{Call, votes, holds, runs, closes, ends, turns, acks, due}
-use Rattle.world_spec.specs.Setting.{Name, Setting, sender_seal}
-use Rattle.world_spec.specs.World.{Seat, Said, Made, Formed, World, Reached, finds_down, stops, answers, new_world, said_by, member_in, reached_up, reached_seat, behind, called_seat, called_in, called_if, sees_on, stated, is_honest, member_at, next_call, entries_at, list_or_none, called_over, armed_seat, started_seat}
+use Rattle.world_spec.specs.Setting.{Name, Setting, member_seal as statement_seal, sender_seal}
+use Rattle.world_spec.specs.World.{Seat, Said, Made, Formed, World, Reached, finds_down, stops, answers, new_world, member_in, reached_up, reached_seat, behind, called_seat, called_in, called_if, sees_on, stated, is_honest, member_at, next_call, entries_at, list_or_none, called_over, armed_seat, started_seat, sealed_by, kept_seal}
 use Rattle.world_spec.specs.Names.{made_named, cert_named, cert_in}
-use Rattle.world_spec.specs.Making.{made_by_line, made_as, transaction_of, spoiled_if, TxLine, made_over}
-use Rattle.world_spec.specs.Step.{happens, says, vote_in, end_in, last_said, voted_on, origin_word, no_origins, origins_or, honest_vote, fvote_origins, fvoted, first_origins, vote_statement, sealed_by, certificate_of, votes_collected, formed_as, formed, sent, open_entries, ordered, sealed_end, appended_entry, has_ended, risen_if, ordered_end, honest_end, end_ordered, on_seat, entries_left, false_ack, acked, happens_over}
+use Rattle.world_spec.specs.Making.{made_by_line, made_as, transaction_of, spoiled_if, TxLine, made_over, digest_or_zero}
+use Rattle.world_spec.specs.Step.{happens, says, vote_in, end_in, last_said, voted_on, origin_word, no_origins, origins_or, honest_vote, fvote_origins, fvoted, first_origins, certificate_of, votes_collected, formed_as, formed, sent, open_entries, ordered, sealed_end, appended_entry, has_ended, risen_if, ordered_end, honest_end, end_ordered, on_seat, entries_left, false_ack, acked, happens_over, collected_seal, last_seal, last_read, seal_in, the_seal}
 use Rattle.world_spec.specs.Run.{run, world_after}
 use Rattle.run_law.specs.Sayable.{IsMember, IsEvent}
 use Rattle.safety_law.proofs.InWorld.{each-set, kept-called, new-seats}
-use Rattle.safety_law.proofs.Steps.{last-said, last-has}
+use Rattle.safety_law.proofs.Steps.{last-said, last-has, last-read}
 use Rattle.run_law.proofs.Members.{IsDigest, IsOrigin, AreOrigins, IsFitStatement, IsFitMember, digest-of, filter-short, stated-fit, fit-step, fit-none}
 use Rattle.run_law.proofs.Texts.{most_words, IsShortEvent}
 use Rattle.run_law.proofs.Fits.{IsFitMade, AreThings, IsFitLine, spoiled-digest, named-digest, few-made, transaction-fits, signed-fits, origins-fit}
@@ -50,10 +50,14 @@ IsFitEvent e = IsEvent e × IsShortEvent most_words e
 abbrev pub AreSeals : (Signer → List ℕ → Digest) → Type 0
 AreSeals seal = (signer : Signer) (bytes : List ℕ) → IsDigest (seal signer bytes)
 
+-- a statement, and a kept seal, that can be encoded
+abbrev pub IsFitSaid : Said → Type 0
+IsFitSaid x = IsFitStatement x.statement × IsOrigin x.seal
+
 -- what a world has can be encoded, after this many lines
 pub record IsFit (s : Setting) (lines : ℕ) (w : World) : Type 0 where
   pub txs : Each IsFitMade w.txs
-  pub said : Each (λ (x : Said). IsFitStatement x.statement) w.said
+  pub said : Each IsFitSaid w.said
   pub certs : Each (λ (f : Formed). certificate.fits f.cert) w.certs
   pub entries : Each (λ (es : List Entry). Each entry_codec.fits es) w.sequences
   pub seats : Each (λ (seat : Seat). IsFitMember (state s.rules s.opening seat.records)) w.seats
@@ -63,11 +67,17 @@ pub record IsFit (s : Setting) (lines : ℕ) (w : World) : Type 0 where
 abbrev none_at : Input → Option Digest
 none_at i = None
 
-each-said : (m : ℕ) (sts : List Statement) → Each IsFitStatement sts → Each (λ (x : Said). IsFitStatement x.statement) (map (said_by m) sts)
-each-said m [] each = tt
-each-said m (st ∷ sts) each = (each.0, each-said m sts each.1)
-
 module _ (s : Setting) (seals : AreSeals s.seal) (things : AreThings s.things) where
+  kept-fit : (m : ℕ) (st : Statement) → IsOrigin (kept_seal st (statement_seal s m st))
+  kept-fit m (statement.Vote epoch tx origins) = seals (signers.Member m) (statement_codec.spell (statement.Vote epoch tx origins))
+  kept-fit m (statement.End epoch) = tt
+  kept-fit m (statement.Checkpoint epoch number sum) = tt
+  kept-fit m (statement.Ack epoch tx effects) = tt
+
+  each-said : (m : ℕ) (sts : List Statement) → Each IsFitStatement sts → Each IsFitSaid (map (sealed_by s.seal m) sts)
+  each-said m [] each = tt
+  each-said m (st ∷ sts) each = ((each.0, kept-fit m st), each-said m sts each.1)
+
   abbrev Seats : World → Type 0
   Seats w = Each (λ (seat : Seat). IsFitMember (state s.rules s.opening seat.records)) w.seats
 
@@ -93,7 +103,7 @@ module _ (s : Setting) (seals : AreSeals s.seal) (things : AreThings s.things) w
   behind-fit n w m call seat (stops kept x) e fit f seats = record { txs = f.txs; said = f.said; certs = f.certs; entries = f.entries; seats = seats; epoch = f.epoch }
   behind-fit n w m call seat (answers before x) e fit f seats = record {
     txs = f.txs;
-    said = each_join (λ (y : Said). IsFitStatement y.statement) w.said (map (said_by m) (stated s.rules before call)) f.said
+    said = each_join IsFitSaid w.said (map (sealed_by s.seal m) (stated s.rules before call)) f.said
         (each-said m (stated s.rules before call) (stated-fit s.rules before call (subst IsFitMember (answers-as seat call before x e) fit)));
     certs = f.certs;
     entries = f.entries;
@@ -122,10 +132,10 @@ module _ (s : Setting) (seals : AreSeals s.seal) (things : AreThings s.things) w
 
   -- ---- statements
 
-  says-fit : (n : ℕ) (w : World) (m : ℕ) (st : Statement) → IsFitStatement st → IsFit s n w → IsFit s n (says w m st)
+  says-fit : (n : ℕ) (w : World) (m : ℕ) (st : Statement) → IsFitStatement st → IsFit s n w → IsFit s n (says s.seal w m st)
   says-fit n w m st is f = record {
     txs = f.txs;
-    said = each_join (λ (y : Said). IsFitStatement y.statement) w.said (said_by m st ∷ []) f.said (is, tt);
+    said = each_join IsFitSaid w.said (sealed_by s.seal m st ∷ []) f.said ((is, kept-fit m st), tt);
     certs = f.certs;
     entries = f.entries;
     seats = f.seats;
@@ -150,10 +160,10 @@ module _ (s : Setting) (seals : AreSeals s.seal) (things : AreThings s.things) w
   voted-origins epoch tx (statement.Checkpoint n number digest) os e is = absurd (cc)
   voted-origins epoch tx (statement.Ack n t effects) os e is = absurd (cc)
 
-  last-origins : (said : List Said) (epoch : ℕ) (tx : Digest) (m : ℕ) (os : List (Option Digest)) → Each (λ (x : Said). IsFitStatement x.statement) said → last_said (vote_in epoch tx) m said ≡ Some os → AreOrigins os
+  last-origins : (said : List Said) (epoch : ℕ) (tx : Digest) (m : ℕ) (os : List (Option Digest)) → Each IsFitSaid said → last_said (vote_in epoch tx) m said ≡ Some os → AreOrigins os
   last-origins said epoch tx m os each e =
       let last = last-said (vote_in epoch tx) m said os e in
-      voted-origins epoch tx last.0 os last.2 (each_has (λ (x : Said). IsFitStatement x.statement) said (said_by m last.0) each last.1)
+      voted-origins epoch tx last.0 os last.3 (each_has IsFitSaid said (record { member = m; statement = last.0; seal = last.1 }) each last.2).0
 
   -- ---- fvote
 
@@ -185,7 +195,7 @@ module _ (s : Setting) (seals : AreSeals s.seal) (things : AreThings s.things) w
       go None q (Some z) r e more = more (r ∙ ap (λ (b : B). Some b) (same z e))
       go None q None r e more = absurd (cc)
 
-  honest-origins : (w : World) (t : Made) (x : ℕ × Seat) (os : List (Option Digest)) → Each (λ (y : Said). IsFitStatement y.statement) w.said → honest_vote w t x ≡ Some os → AreOrigins os
+  honest-origins : (w : World) (t : Made) (x : ℕ × Seat) (os : List (Option Digest)) → Each IsFitSaid w.said → honest_vote w t x ≡ Some os → AreOrigins os
   honest-origins w t x os each e = go x.1.honest e
     where
       go : (b : Bool) → cond b (last_said (vote_in t.signed.tx.epoch t.digest) x.0 w.said) None ≡ Some os → AreOrigins os
@@ -196,16 +206,16 @@ module _ (s : Setting) (seals : AreSeals s.seal) (things : AreThings s.things) w
   or-origins none None are some = are
   or-origins none (Some os) are some = some os refl
 
-  fvote-origins : (w : World) (t : Made) (words : List (Option Name)) → length words ≤ most_words → IsFitMade t → Each IsFitMade w.txs → Each (λ (y : Said). IsFitStatement y.statement) w.said → AreOrigins (fvote_origins w t words)
+  fvote-origins : (w : World) (t : Made) (words : List (Option Name)) → length words ≤ most_words → IsFitMade t → Each IsFitMade w.txs → Each IsFitSaid w.said → AreOrigins (fvote_origins w t words)
   fvote-origins w t [] few made txs said =
       or-origins (no_origins t.signed.tx) (first_of (honest_vote w t) (enumerate_from 0 w.seats)) (no-origins t.signed.tx made.2)
       (λ os e. first-found AreOrigins (honest_vote w t) (enumerate_from 0 w.seats) os (λ x ps q. honest-origins w t x ps said q) e)
   fvote-origins w t (word ∷ words) few made txs said = let all = word-origins w (word ∷ words) txs in let same = all.1 in (omega (arith, same, few), all.0)
 
-  fvoted-fit : (n : ℕ) (w : World) (m : ℕ) (words : List (Option Name)) (t : Option Made) → length words ≤ most_words → ((x : Made) → t ≡ Some x → IsFitMade x) → IsFit s n w → IsFit s n (fvoted w m words t)
+  fvoted-fit : (n : ℕ) (w : World) (m : ℕ) (words : List (Option Name)) (t : Option Made) → length words ≤ most_words → ((x : Made) → t ≡ Some x → IsFitMade x) → IsFit s n w → IsFit s n (fvoted s w m words t)
   fvoted-fit n w m words None few made f = f
   fvoted-fit n w m words (Some t) few made f =
-      if-fit n (is_honest w m) w (says w m (statement.Vote t.signed.tx.epoch t.digest (fvote_origins w t words))) f
+      if-fit n (is_honest w m) w (says s.seal w m (statement.Vote t.signed.tx.epoch t.digest (fvote_origins w t words))) f
       (says-fit n w m (statement.Vote t.signed.tx.epoch t.digest (fvote_origins w t words)) (fvote-origins w t words few (made t refl) f.txs f.said) f)
 
   -- ---- cert
@@ -214,31 +224,48 @@ module _ (s : Setting) (seals : AreSeals s.seal) (things : AreThings s.things) w
   list-origins None some = (omega arith, tt)
   list-origins (Some os) some = some os refl
 
-  first-origins : (w : World) (t : Made) (ms : List ℕ) → Each (λ (y : Said). IsFitStatement y.statement) w.said → AreOrigins (first_origins w t ms)
+  first-origins : (w : World) (t : Made) (ms : List ℕ) → Each IsFitSaid w.said → AreOrigins (first_origins w t ms)
   first-origins w t [] said = (omega arith, tt)
   first-origins w t (m ∷ ms) said = list-origins (last_said (vote_in t.signed.tx.epoch t.digest) m w.said) (λ os e. last-origins w.said t.signed.tx.epoch t.digest m os said e)
 
-  seals-fit : (st : Statement) (ms : List ℕ) → AllByRecursion IsMember ms → AllByRecursion member_seal.fits (map (sealed_by s st) ms)
+  -- a collected seal is a digest
+  kept-digest : (x : Said) (vote : Option (List (Option Digest))) (seal : Option Digest) → option_map (λ _. x.seal) vote ≡ Some seal → IsFitSaid x → IsDigest (digest_or_zero seal)
+  kept-digest x None seal e is = absurd (cc)
+  kept-digest x (Some origins) None e is = refl
+  kept-digest x (Some origins) (Some d) e is = subst IsOrigin (same e) is.1
+    where
+      same : Some x.seal ≡ Some (let o : Option Digest = Some d in o) → x.seal ≡ Some d
+      same e = cc
+
+  last-digest : (said : List Said) (epoch : ℕ) (tx : Digest) (m : ℕ) → Each IsFitSaid said → IsDigest (digest_or_zero (last_seal epoch tx m said))
+  last-digest said epoch tx m each = by (last_read (seal_in epoch tx) m said) refl
+    where
+      by : (o : Option (Option Digest)) → last_read (seal_in epoch tx) m said ≡ o → IsDigest (digest_or_zero (option_and_then the_seal o))
+      by None e = refl
+      by (Some seal) e =
+          let last = last-read (seal_in epoch tx) m said seal e in
+          kept-digest last.0 (vote_in epoch tx last.0.statement) seal last.3 (each_has IsFitSaid said last.0 each last.1)
+
+  seals-fit : (said : List Said) (t : Made) (ms : List ℕ) → Each IsFitSaid said → AllByRecursion IsMember ms → AllByRecursion member_seal.fits (map (collected_seal said t) ms)
   unfolding member_seal digest
-  seals-fit st [] is = tt
-  seals-fit st (m ∷ ms) is = ((is.0, seals (signers.Member m) (statement_codec.spell st)), seals-fit st ms is.1)
+  seals-fit said t [] each is = tt
+  seals-fit said t (m ∷ ms) each is = ((is.0, last-digest said t.signed.tx.epoch t.digest m each), seals-fit said t ms each is.1)
 
-  certificate-fits : (t : Made) (os : List (Option Digest)) (ms : List ℕ) → IsFitMade t → AreOrigins os → AllByRecursion IsMember ms → length ms ≤ most_words → certificate.fits (certificate_of s t os ms)
+  certificate-fits : (said : List Said) (t : Made) (os : List (Option Digest)) (ms : List ℕ) → Each IsFitSaid said → IsFitMade t → AreOrigins os → AllByRecursion IsMember ms → length ms ≤ most_words → certificate.fits (certificate_of said t os ms)
   unfolding certificate signed
-  certificate-fits t os ms made are is few =
-      let st = vote_statement t.signed.tx t.digest os in
-      let same = length-map ms (sealed_by s st) in
-      (made.0.0, (origins-fit os are, (omega (arith, same, few), All-from_recursion member_seal.fits (map (sealed_by s st) ms) (seals-fit st ms is))))
+  certificate-fits said t os ms each made are is few =
+      let same = length-map ms (collected_seal said t) in
+      (made.0.0, (origins-fit os are, (omega (arith, same, few), All-from_recursion member_seal.fits (map (collected_seal said t) ms) (seals-fit said t ms each is))))
 
-  formed-as-fit : (n : ℕ) (w : World) (t : Made) (ms : List ℕ) (c : Collected) → IsFitMade t → AllByRecursion IsMember ms → length ms ≤ most_words → IsFit s n w → IsFit s n (formed_as s w t ms c)
+  formed-as-fit : (n : ℕ) (w : World) (t : Made) (ms : List ℕ) (c : Collected) → IsFitMade t → AllByRecursion IsMember ms → length ms ≤ most_words → IsFit s n w → IsFit s n (formed_as w t ms c)
   formed-as-fit n w t ms (lacks m) made is few f = f
   formed-as-fit n w t ms (short weight total) made is few f = f
   formed-as-fit n w t ms (differ a b) made is few f = f
   formed-as-fit n w t ms whole made is few f = record {
     txs = f.txs;
     said = f.said;
-    certs = each_join (λ (x : Formed). certificate.fits x.cert) w.certs (record { name = t.name; cert = certificate_of s t (first_origins w t ms) ms } ∷ []) f.certs
-        (certificate-fits t (first_origins w t ms) ms made (first-origins w t ms f.said) is few, tt);
+    certs = each_join (λ (x : Formed). certificate.fits x.cert) w.certs (record { name = t.name; cert = certificate_of w.said t (first_origins w t ms) ms } ∷ []) f.certs
+        (certificate-fits w.said t (first_origins w t ms) ms f.said made (first-origins w t ms f.said) is few, tt);
     entries = f.entries;
     seats = f.seats;
     epoch = f.epoch;
@@ -312,9 +339,9 @@ module _ (s : Setting) (seals : AreSeals s.seal) (things : AreThings s.things) w
   end-ordered-fit : (n : ℕ) (w : World) (m : ℕ) → IsMember m → n ≤ most_words → IsFit s n w → IsFit s (suc n) (end_ordered s w m)
   end-ordered-fit n w m is few f =
       let le = f.epoch in
-      if-fit (suc n) (is_honest w m) (honest_end s w m (last_said end_in m w.said)) (ordered_end s (says w m (statement.End w.epoch)) m w.epoch)
+      if-fit (suc n) (is_honest w m) (honest_end s w m (last_said end_in m w.said)) (ordered_end s (says s.seal w m (statement.End w.epoch)) m w.epoch)
       (honest-end-fit n w m (last_said end_in m w.said) is few f)
-      (end-fit n (says w m (statement.End w.epoch)) m w.epoch is (omega (arith, le, few)) (says-fit n w m (statement.End w.epoch) tt f))
+      (end-fit n (says s.seal w m (statement.End w.epoch)) m w.epoch is (omega (arith, le, few)) (says-fit n w m (statement.End w.epoch) tt f))
 
   -- ---- the other lines
 
@@ -360,7 +387,7 @@ module _ (s : Setting) (seals : AreSeals s.seal) (things : AreThings s.things) w
   acked-fit : (n : ℕ) (w : World) (m : ℕ) (spoiled : Bool) (t : Option Made) → IsFit s n w → IsFit s n (acked s w m spoiled t)
   acked-fit n w m spoiled None f = f
   acked-fit n w m spoiled (Some t) f =
-      if-fit n (is_honest w m) (called_in s w m (acks t.digest)) (says w m (false_ack s w t spoiled)) (call-fit n w m (acks t.digest) f) (says-fit n w m (false_ack s w t spoiled) tt f)
+      if-fit n (is_honest w m) (called_in s w m (acks t.digest)) (says s.seal w m (false_ack s w t spoiled)) (call-fit n w m (acks t.digest) f) (says-fit n w m (false_ack s w t spoiled) tt f)
 
   made-named : (n : ℕ) (w : World) (name : Name) (x : Made) → IsFit s n w → made_named w name ≡ Some x → IsFitMade x
   made-named n w name x f e = each_has IsFitMade w.txs x f.txs (find_has (λ (t : Made). bytes_eq t.name name) w.txs x e)

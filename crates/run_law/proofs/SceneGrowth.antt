@@ -61,20 +61,20 @@ module _ (s : Setting) where
 
   ended-keeps : (w : World) (m : ℕ) → Keeps w (end_ordered s w m)
   ended-keeps w m =
-      let said = says w m (statement.End w.epoch) in
+      let said = says s.seal w m (statement.End w.epoch) in
       if-keeps w (honest_end s w m (last_said end_in m w.said)) (ordered_end s said m w.epoch) (is_honest w m) (honest-keeps w m (last_said end_in m w.said)) (end-keeps w said m w.epoch refl)
 
   acked-keeps : (w : World) (m : ℕ) (spoiled : Bool) (t : Option Made) → Keeps w (acked s w m spoiled t)
   acked-keeps w m spoiled None keepable = keepable
   acked-keeps w m spoiled (Some t) keepable =
       let called = called_in s w m (acks t.digest) in
-      if-keeps w called (says w m (false_ack s w t spoiled)) (is_honest w m) (same-keeps w called (called-open s w m (acks t.digest))) (λ same. same) keepable
+      if-keeps w called (says s.seal w m (false_ack s w t spoiled)) (is_honest w m) (same-keeps w called (called-open s w m (acks t.digest))) (λ same. same) keepable
 
   line-keeps : (w : World) (e : Event) → Keeps w (happens s w e)
   unfolding happens_over made_over
   line-keeps w (event.Tx name sender spoiled epoch gas budget inputs commands) = λ same. same
   line-keeps w (event.Vote m tx) = same-keeps w (voted_on s w m (made_named w tx)) (voted-open s w m (made_named w tx))
-  line-keeps w (event.Fvote m tx origins) = same-keeps w (fvoted w m origins (made_named w tx)) (fvote-open s w m origins (made_named w tx))
+  line-keeps w (event.Fvote m tx origins) = same-keeps w (fvoted s w m origins (made_named w tx)) (fvote-open s w m origins (made_named w tx))
   line-keeps w (event.Cert tx members) = same-keeps w (formed s w members (made_named w tx)) (cert-open s w members (made_named w tx))
   line-keeps w (event.Send m tx) = same-keeps w (sent s w m (cert_named w tx)) (sent-open s w m (cert_named w tx))
   line-keeps w (event.Order tx) = order-keeps w (cert_named w tx)

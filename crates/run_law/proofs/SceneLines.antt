@@ -41,7 +41,7 @@ use Rattle.world_spec.specs.Scene.{Scene, bare_setting, bare_world, rules_in}
 use Rattle.world_spec.specs.SceneSteps as scenes
 use Rattle.world_spec.specs.SceneSteps.{ack_lines_in, ack_text_in, call_lines_in, called_scene, entries_lines_in, hold_text_in, lines_in, next_on, see_halted_in, see_lines_in, send_text_in, show_in, standing_at, state_at, vote_lines_in, vote_text_in}
 use Rattle.world_spec.specs.SceneWorlds.{Shows, is_restart, journal_in, post_of, posts_from, scene_of, spelled}
-use Rattle.run_law.proofs.ScenePosts.{called-same, place, posts-get, reached-same}
+use Rattle.run_law.proofs.ScenePosts.{called-same, place, posts-get, reached-same, plain-sees}
 use Rattle.run_law.proofs.SceneSees.{IsUp, IsDown, stands, up-behind, up-member, up-next, up-next-on, up-state}
 use Rattle.run_law.proofs.SceneSteps.{bare-honest, origins-same, collected-same}
 
@@ -89,7 +89,7 @@ module _ (trust : Trust) (s : Setting) (rules : s.rules ≡ rules_for (terms_of 
 
   cert-same : (tx : Name) (ms : List ℕ) (t : Option Made) → cert_lines s w tx ms t ≡ cert_lines bare_s bare_w tx ms t
   cert-same tx ms None = refl
-  cert-same tx ms (Some t) = ap (λ (c : Collected). line.Cert tx (cert_collected ms c) ∷ []) (collected-same s trust seal w t ms)
+  cert-same tx ms (Some t) = ap (λ (c : Collected). line.Cert tx (cert_collected ms c) ∷ []) (collected-same s trust w t ms)
 
   hold-text : (bytes : List ℕ) (r : Reached) → hold_reached s w bytes r ≡ hold_reached bare_s bare_w bytes r
   hold-text bytes finds_down = refl
@@ -254,7 +254,7 @@ module _ (trust : Trust) (s : Setting) (rules : s.rules ≡ rules_for (terms_of 
         entry-said m number bytes (entries_lines (by_records s) s n (called_in s w m call) m) (entries_lines_in trust n (called_scene scene_rules (scene_of s w) m call) m)
         (λ before x e.
         more (called_in s w m call) (up-behind s w m call before x up e)
-        ∙ ap (λ (sc : Scene). entries_lines_in trust n sc m) (called-same s w m call)
+        ∙ ap (λ (sc : Scene). entries_lines_in trust n sc m) (called-same s w m call (plain-sees s number bytes))
         ∙ ap (λ (r : Rules). entries_lines_in trust n (called_scene r (scene_of s w) m call) m) rules)
 
     next-more : IsUp w m

@@ -164,11 +164,11 @@ module _ (s : Setting) where
   if-keeps true w v u one other = one
   if-keeps false w v u one other = other
 
-  fvote-keeps : (w : World) (m : ℕ) (words : List (Option Name)) (t : Option Made) → KeepsRecords w (fvoted w m words t)
+  fvote-keeps : (w : World) (m : ℕ) (words : List (Option Name)) (t : Option Made) → KeepsRecords w (fvoted s w m words t)
   fvote-keeps w m words None = λ k. refl
   fvote-keeps w m words (Some t) = if-keeps (is_honest w m) w w _ (λ k. refl) (λ k. refl)
 
-  formed-keeps : (w : World) (t : Made) (ms : List ℕ) (c : Collected) → KeepsRecords w (formed_as s w t ms c)
+  formed-keeps : (w : World) (t : Made) (ms : List ℕ) (c : Collected) → KeepsRecords w (formed_as w t ms c)
   formed-keeps w t ms (lacks m) k = refl
   formed-keeps w t ms (short weight total) k = refl
   formed-keeps w t ms (differ a b) k = refl
@@ -205,7 +205,7 @@ module _ (s : Setting) where
   send-does w m None = λ k. refl
   send-does w m (Some c) = refl
 
-  ack-if : (w : World) (m : ℕ) (call : Call) (st : Statement) (b : Bool) → Does w (cond b (asks m call) idle) (cond b (called_in s w m call) (says w m st))
+  ack-if : (w : World) (m : ℕ) (call : Call) (st : Statement) (b : Bool) → Does w (cond b (asks m call) idle) (cond b (called_in s w m call) (says s.seal w m st))
   ack-if w m call st true = refl
   ack-if w m call st false = λ k. refl
 
@@ -223,7 +223,7 @@ module _ (s : Setting) where
   line-does w (event.Cert tx members) = cert-keeps w members (made_named w tx)
   line-does w (event.Send m tx) = send-does w m (cert_named w tx)
   line-does w (event.Order tx) = order-keeps w (cert_named w tx)
-  line-does w (event.OrderEnd m) = if-keeps (is_honest w m) w _ _ (honest-keeps w m (last_said end_in m w.said)) (end-keeps w (says w m (statement.End w.epoch)) m w.epoch (λ k. refl))
+  line-does w (event.OrderEnd m) = if-keeps (is_honest w m) w _ _ (honest-keeps w m (last_said end_in m w.said)) (end-keeps w (says s.seal w m (statement.End w.epoch)) m w.epoch (λ k. refl))
   line-does w event.OrderCommit = λ k. refl
   line-does w (event.See m entries) = count-same s w m entries
   line-does w (event.Run m workers) = refl

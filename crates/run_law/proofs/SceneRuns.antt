@@ -7,7 +7,6 @@ use Rattle.chain_messages.specs.Messages as messages
 use Rattle.schedule_text.specs.declared.words.Event.{Event}
 use Rattle.schedule_text.specs.declared.words.Event.TheVariants as event
 use Rattle.schedule_text.specs.declared.words.Schedule.{Schedule}
-use Rattle.schedule_text.specs.declared.words.Setup.{Setup}
 use Rattle.schedule_text.specs.declared.statement.Statement.TheVariants as statement
 use Rattle.schedule_text.specs.Schedule.{schedule_of}
 use Rattle.protocol_spec.proofs.ListLemmas.{find_has, each_has, each_join}

@@ -10,7 +10,7 @@ use Rattle.protocol_spec.specs.Member.Member.{Member}
 use Rattle.protocol_spec.specs.Member.Calls.{Call, sees, due}
 use Rattle.world_spec.specs.Setting.{Setting}
 use Rattle.world_spec.specs.World as worlds
-use Rattle.world_spec.specs.World.{World, Reached, finds_down, answers, appended, behind, called_if, called_in, called_seat, entries_at, member_at, member_in, next_call, next_call_of, numbered_call, reached, reached_at, reached_seat, reached_up, sees_on, state_of, called_over, reached_over, is_seat_up}
+use Rattle.world_spec.specs.World.{World, Reached, finds_down, answers, appended, behind, called_if, called_in, called_seat, entries_at, member_at, member_in, next_call, next_call_of, numbered_call, reached, reached_at, reached_seat, reached_up, sees_on, state_of, called_over, reached_over, is_seat_up, next_entry}
 use Rattle.world_spec.specs.Step.{entries_left}
 use Rattle.world_spec.specs.Assumptions.{call_list, see_calls}
 use Rattle.world_spec.specs.Terms.{terms_of}
@@ -19,7 +19,7 @@ use Rattle.world_spec.specs.Scene.{Scene, bare_world}
 use Rattle.world_spec.specs.SceneSteps as scenes
 use Rattle.world_spec.specs.SceneSteps.{next_on, seat_state, sees_to, standing_at, state_at}
 use Rattle.world_spec.specs.SceneWorlds.{post_of, scene_of}
-use Rattle.run_law.proofs.ScenePosts.{called-open, called-same, place, posts-get}
+use Rattle.run_law.proofs.ScenePosts.{called-open, called-same, place, posts-get, plain-sees}
 
 -- a member is there and up
 pub record IsUp (w : World) (m : ℕ) : Type 0 where
@@ -105,14 +105,15 @@ module _ (s : Setting) where
   down-step w m None is = refl
   down-step w m (Some call) is = is.same call
 
-  step-if : (w : World) (m : ℕ) (call : Option Call) → scene_of s (called_if s w m call) ≡ scenes.called_if s.rules (scene_of s w) m call
-  step-if w m None = refl
-  step-if w m (Some call) = called-same s w m call
+  step-if : (w : World) (m number : ℕ) (e : Option Entry) → scene_of s (called_if s w m (option_map (numbered_call number) e)) ≡ scenes.called_if s.rules (scene_of s w) m (option_map (numbered_call number) e)
+  step-if w m number None = refl
+  step-if w m number (Some e) = called-same s w m (numbered_call number e) (plain-sees s number (messages.entry.spell e))
 
   step-by : (w : World) (m : ℕ) → IsUp w m ⊎ IsDown s w m → scene_of s (called_if s w m (next_call s w m)) ≡ scenes.called_if s.rules (scene_of s w) m (next_on (scene_of s w) m)
   step-by w m (inl is) =
-      step-if w m (next_call s w m)
-      ∙ ap (λ (call : Option Call). scenes.called_if s.rules (scene_of s w) m call) (up-next w m is ∙ sym (up-next-on w m is))
+      ap (λ (call : Option Call). scene_of s (called_if s w m call)) (up-next w m is)
+      ∙ step-if w m (member_in s is.seat).sequence.number (next_entry w (member_in s is.seat))
+      ∙ sym (ap (λ (call : Option Call). scenes.called_if s.rules (scene_of s w) m call) (up-next-on w m is))
   step-by w m (inr is) =
       ap (λ (v : World). scene_of s v) (down-step w m (next_call s w m) is)
       ∙ sym (ap (λ (call : Option Call). scenes.called_if s.rules (scene_of s w) m call) (down-next w m is))

@@ -4,10 +4,8 @@ use Rattle.std.specs.Prelude.{◌≡◌, ◌<◌, ◌==◌, ℕ, ◌+◌, zero, 
 use Rattle.std.specs.List.{enumerate_from}
 use Rattle.digest_core.specs.declared.Digest.{Digest}
 use Rattle.quorum_core.specs.declared.signer.Signer.{Signer}
-use Rattle.quorum_core.specs.declared.signer.Signer.TheVariants as signers
 use Rattle.chain_types.specs.declared.objects.ObjectKey.{ObjectKey}
 use Rattle.chain_messages.specs.Messages as messages
-use Rattle.chain_messages.specs.declared.messages.MemberSeal.{MemberSeal}
 use Rattle.chain_messages.specs.declared.messages.Statement.{Statement}
 use Rattle.chain_messages.specs.declared.messages.Statement.TheVariants as statement
 use Rattle.chain_messages.specs.declared.messages.Certificate.{Certificate}
@@ -20,13 +18,13 @@ use Rattle.protocol_spec.specs.Chain.Collecting.{Collected, lacks, short, differ
 use Rattle.protocol_spec.specs.Chain.Words.{first_some, first_of}
 use Rattle.protocol_spec.specs.Chain.Certificates.{Rules}
 use Rattle.protocol_spec.specs.Member.Member.{Member, state}
-use Rattle.protocol_spec.specs.Member.Calls.{Call, runs, votes, holds, closes, ends, turns, acks}
+use Rattle.protocol_spec.specs.Member.Calls.{Call, runs, holds, closes, ends, turns, acks}
 use Rattle.world_spec.specs.Setting.{Name, Trust, Setting, setting_of}
 use Rattle.world_spec.specs.World as worlds
 use Rattle.world_spec.specs.World.{Made, Said, World, called_in, honest_seat, is_honest, member_at, member_in, new_seat, new_world, said_by, says_first, sees_on, armed_seat, started_seat}
 use Rattle.world_spec.specs.Names.{made_named, cert_named}
 use Rattle.world_spec.specs.Making.{TxLine, digest_or_zero, held_digest, made_by_line, spoiled_if, made_over}
-use Rattle.world_spec.specs.Step.{acked, appended_entry, end_in, end_ordered, entries_left, executed_digest, false_ack, has_ended, honest_end, last_said, ordered, ordered_end, risen_if, sealed_end, first_origins, formed, formed_as, fvote_origins, fvoted, happens, honest_vote, no_origins, origin_word, origins_or, says, sent, vote_statement, voted_on, votes_collected, happens_over}
+use Rattle.world_spec.specs.Step.{acked, appended_entry, end_in, end_ordered, entries_left, executed_digest, false_ack, has_ended, honest_end, last_said, ordered, ordered_end, risen_if, sealed_end, formed, formed_as, fvote_origins, fvoted, happens, honest_vote, no_origins, origin_word, origins_or, says, sent, voted_on, votes_collected, happens_over}
 use Rattle.world_spec.specs.Run.{records_of}
 use Rattle.world_spec.specs.Known.{names_of, with_line}
 use Rattle.world_spec.specs.MadeLines.{line_made}
@@ -37,10 +35,11 @@ use Rattle.world_spec.specs.Starts.{started}
 use Rattle.world_spec.specs.Seats.{Seated}
 use Rattle.world_spec.specs.Posts.{Post, arming, new_posts, seat_at, started_at, starting}
 use Rattle.world_spec.specs.Scene.{Scene, bare_seat, bare_setting, bare_world, new_scene, rules_in}
-use Rattle.world_spec.specs.SceneSteps.{Work, asks, hands, acked_in, asked, called_scene, false_ack_in, held_by, held_call, held_in, says_in, sees_to, signed_call, state_at, steps_to, with_order, with_tx, work_of, worked}
+use Rattle.world_spec.specs.SceneSteps.{Work, asks, hands, acked_in, asked, called_scene, false_ack_in, held_by, held_call, held_in, says_in, sees_to, signed_call, state_at, steps_to, with_order, with_tx, work_of, worked, voted_in, voted_scene}
 use Rattle.world_spec.specs.SceneWorlds.{Restarts, Shows, is_restart, journal_in, post_of, posts_from, scene_of, spelled}
-use Rattle.run_law.proofs.ScenePosts.{place-first, called-same, called-open, changed-same}
+use Rattle.run_law.proofs.ScenePosts.{place-first, called-same, called-open, changed-same, vote-called, IsPlain, plain-holds, plain-runs, plain-closes, plain-ends, plain-turns, plain-acks}
 use Rattle.run_law.proofs.SceneSees.{count-same, sees-same}
+use Rattle.chain_types.specs.Transactions as transactions
 
 -- ---- the first scene
 
@@ -114,47 +113,40 @@ module _ (s : Setting) where
   origins-same w t (word ∷ words) = ap (λ (f : Option Name → Option Digest). map f (word ∷ words)) (λ i o. word-same w o i)
 
   said-if : (w : World) (m : ℕ) (st : Statement) (b : Bool)
-      → scene_of s (cond b w (says w m st)) ≡ record (scene_of s w) { said = (cond b (bare_world (scene_of s w)) (says (bare_world (scene_of s w)) m st)).said }
+      → scene_of s (cond b w (says s.seal w m st)) ≡ record (scene_of s w) { said = (cond b (bare_world (scene_of s w)) (says s.seal (bare_world (scene_of s w)) m st)).said }
   said-if w m st true = refl
   said-if w m st false = refl
 
   abbrev voted_for : Made → List (Option Digest) → Statement
   voted_for t origins = statement.Vote t.signed.tx.epoch t.digest origins
 
-  fvote-same : (w : World) (m : ℕ) (words : List (Option Name)) (t : Option Made)
-      → scene_of s (fvoted w m words t) ≡ record (scene_of s w) { said = (fvoted (bare_world (scene_of s w)) m words t).said }
-  fvote-same w m words None = refl
-  fvote-same w m words (Some t) =
+  fvote-same : (trust : Trust) → s.seal ≡ trust.seal → (w : World) (m : ℕ) (words : List (Option Name)) (t : Option Made)
+      → scene_of s (fvoted s w m words t) ≡ record (scene_of s w) { said = (fvoted (bare_setting trust (scene_of s w)) (bare_world (scene_of s w)) m words t).said }
+  fvote-same trust seal w m words None = refl
+  fvote-same trust seal w m words (Some t) =
       let bare = bare_world (scene_of s w) in
       said-if w m (voted_for t (fvote_origins w t words)) (is_honest w m)
-      ∙ ap (λ (b : Bool). record (scene_of s w) { said = (cond b bare (says bare m (voted_for t (fvote_origins w t words)))).said }) (bare-honest 0 w.seats m)
-      ∙ ap (λ (origins : List (Option Digest)). record (scene_of s w) { said = (cond (is_honest bare m) bare (says bare m (voted_for t origins))).said }) (origins-same w t words)
+      ∙ ap (λ (b : Bool). record (scene_of s w) { said = (cond b bare (says s.seal bare m (voted_for t (fvote_origins w t words)))).said }) (bare-honest 0 w.seats m)
+      ∙ ap (λ (origins : List (Option Digest)). record (scene_of s w) { said = (cond (is_honest bare m) bare (says s.seal bare m (voted_for t origins))).said }) (origins-same w t words)
+      ∙ ap (λ (seals : Signer → List ℕ → Digest). record (scene_of s w) { said = (cond (is_honest bare m) bare (says seals bare m (voted_for t (fvote_origins bare t words)))).said }) seal
 
-  if-open : (w : World) (m : ℕ) (st : Statement) (b : Bool) → (cond b w (says w m st)).sequences ≡ w.sequences
+  if-open : (w : World) (m : ℕ) (st : Statement) (b : Bool) → (cond b w (says s.seal w m st)).sequences ≡ w.sequences
   if-open w m st true = refl
   if-open w m st false = refl
 
-  pub fvote-open : (w : World) (m : ℕ) (words : List (Option Name)) (t : Option Made) → (fvoted w m words t).sequences ≡ w.sequences
+  pub fvote-open : (w : World) (m : ℕ) (words : List (Option Name)) (t : Option Made) → (fvoted s w m words t).sequences ≡ w.sequences
   fvote-open w m words None = refl
   fvote-open w m words (Some t) = if-open w m (voted_for t (fvote_origins w t words)) (is_honest w m)
 
   -- ---- certificates
 
-  abbrev sealed_with : (Signer → List ℕ → Digest) → Statement → ℕ → MemberSeal
-  sealed_with seal st m = record { member = m; seal = seal (signers.Member m) (messages.statement.spell st) }
+  formed-same : (w : World) (t : Made) (ms : List ℕ) (c : Collected) → scene_of s (formed_as w t ms c) ≡ record (scene_of s w) { certs = (formed_as (bare_world (scene_of s w)) t ms c).certs }
+  formed-same w t ms (lacks m) = refl
+  formed-same w t ms (short weight total) = refl
+  formed-same w t ms (differ a b) = refl
+  formed-same w t ms whole = refl
 
-  abbrev certificate_with : (Signer → List ℕ → Digest) → Made → List (Option Digest) → List ℕ → Certificate
-  certificate_with seal t origins ms = record { tx = t.signed.tx; origins = origins; seals = map (sealed_with seal (vote_statement t.signed.tx t.digest origins)) ms }
-
-  module _ (trust : Trust) (seal : s.seal ≡ trust.seal) where
-    formed-same : (w : World) (t : Made) (ms : List ℕ) (c : Collected)
-        → scene_of s (formed_as s w t ms c) ≡ record (scene_of s w) { certs = (formed_as (bare_setting trust (scene_of s w)) (bare_world (scene_of s w)) t ms c).certs }
-    formed-same w t ms (lacks m) = refl
-    formed-same w t ms (short weight total) = refl
-    formed-same w t ms (differ a b) = refl
-    formed-same w t ms whole =
-        ap (λ (seals : Signer → List ℕ → Digest). record (scene_of s w) { certs = w.certs ++ record { name = t.name; cert = certificate_with seals t (first_origins w t ms) ms } ∷ [] }) seal
-
+  module _ (trust : Trust) where
     pub collected-same : (w : World) (t : Made) (ms : List ℕ) → votes_collected s w t ms ≡ votes_collected (bare_setting trust (scene_of s w)) (bare_world (scene_of s w)) t ms
     unfolding votes_collected
     collected-same w t ms = refl
@@ -164,9 +156,9 @@ module _ (s : Setting) where
     cert-same w ms None = refl
     cert-same w ms (Some t) =
         formed-same w t ms (votes_collected s w t ms)
-        ∙ ap (λ (c : Collected). record (scene_of s w) { certs = (formed_as (bare_setting trust (scene_of s w)) (bare_world (scene_of s w)) t ms c).certs }) (collected-same w t ms)
+        ∙ ap (λ (c : Collected). record (scene_of s w) { certs = (formed_as (bare_world (scene_of s w)) t ms c).certs }) (collected-same w t ms)
 
-  formed-open : (w : World) (t : Made) (ms : List ℕ) (c : Collected) → (formed_as s w t ms c).sequences ≡ w.sequences
+  formed-open : (w : World) (t : Made) (ms : List ℕ) (c : Collected) → (formed_as w t ms c).sequences ≡ w.sequences
   formed-open w t ms (lacks m) = refl
   formed-open w t ms (short weight total) = refl
   formed-open w t ms (differ a b) = refl
@@ -178,13 +170,13 @@ module _ (s : Setting) where
 
   -- ---- calls of names
 
-  voted-same : (w : World) (m : ℕ) (t : Option Made) → scene_of s (voted_on s w m t) ≡ worked s.rules (scene_of s w) (asked m (option_map signed_call t))
+  voted-same : (w : World) (m : ℕ) (t : Option Made) → scene_of s (voted_on s w m t) ≡ voted_in s.seal s.rules (scene_of s w) m t
   voted-same w m None = refl
-  voted-same w m (Some t) = called-same s w m (signed_call t)
+  voted-same w m (Some t) = vote-called s w m (transactions.signed.spell t.signed)
 
   sent-same : (w : World) (m : ℕ) (c : Option Certificate) → scene_of s (sent s w m c) ≡ worked s.rules (scene_of s w) (asked m (option_map held_call c))
   sent-same w m None = refl
-  sent-same w m (Some c) = called-same s w m (held_call c)
+  sent-same w m (Some c) = called-same s w m (held_call c) (plain-holds s (messages.certificate.spell c))
 
   pub voted-open : (w : World) (m : ℕ) (t : Option Made) → (voted_on s w m t).sequences ≡ w.sequences
   voted-open w m None = refl
@@ -233,14 +225,14 @@ module _ (s : Setting) where
     honest-same m None = refl
     honest-same m (Some epoch) = honest-if m epoch (epoch == w.epoch)
 
-    faulty-same : (m : ℕ) → IsSame (ordered_end s (says w m (statement.End w.epoch)) m w.epoch) (ordered_end bare_s (says (bare_world (scene_of s w)) m (statement.End w.epoch)) m w.epoch)
+    faulty-same : (m : ℕ) → IsSame (ordered_end s (says s.seal w m (statement.End w.epoch)) m w.epoch) (ordered_end bare_s (says s.seal (bare_world (scene_of s w)) m (statement.End w.epoch)) m w.epoch)
     faulty-same m =
-        let v = says w m (statement.End w.epoch) in
+        let v = says s.seal w m (statement.End w.epoch) in
         rise-if (appended_entry v (sealed_end s m w.epoch)).sequences v.said (has_ended s (appended_entry v (sealed_end s m w.epoch)))
 
     end-if : (m : ℕ) (b : Bool)
-        → IsSame (cond b (honest_end s w m (last_said end_in m w.said)) (ordered_end s (says w m (statement.End w.epoch)) m w.epoch))
-        (cond b (honest_end bare_s (bare_world (scene_of s w)) m (last_said end_in m w.said)) (ordered_end bare_s (says (bare_world (scene_of s w)) m (statement.End w.epoch)) m w.epoch))
+        → IsSame (cond b (honest_end s w m (last_said end_in m w.said)) (ordered_end s (says s.seal w m (statement.End w.epoch)) m w.epoch))
+        (cond b (honest_end bare_s (bare_world (scene_of s w)) m (last_said end_in m w.said)) (ordered_end bare_s (says s.seal (bare_world (scene_of s w)) m (statement.End w.epoch)) m w.epoch))
     end-if m true = honest-same m (last_said end_in m w.said)
     end-if m false = faulty-same m
 
@@ -248,7 +240,7 @@ module _ (s : Setting) where
     end-same m rules seal =
         let bare = bare_world (scene_of s w) in
         end-if m (is_honest w m)
-        ∙ ap (λ (b : Bool). with_order (scene_of s w) (cond b (honest_end bare_s bare m (last_said end_in m w.said)) (ordered_end bare_s (says bare m (statement.End w.epoch)) m w.epoch))) (bare-honest 0 w.seats m)
+        ∙ ap (λ (b : Bool). with_order (scene_of s w) (cond b (honest_end bare_s bare m (last_said end_in m w.said)) (ordered_end bare_s (says s.seal bare m (statement.End w.epoch)) m w.epoch))) (bare-honest 0 w.seats m)
         ∙ ap (λ (r : Rules). with_order (scene_of s w) (end_ordered (bare_with trust w r s.seal) bare m)) rules
         ∙ ap (λ (f : Signer → List ℕ → Digest). with_order (scene_of s w) (end_ordered (bare_with trust w (rules_for (terms_of s.rules) trust.accepts) f) bare m)) seal
 
@@ -269,9 +261,9 @@ module _ (s : Setting) where
       ∙ ap (λ (d : Option A). first_some (cond seat.honest (option_and_then (λ (x : Seated). says x.state) (post_of s k seat).standing) None ∷ d ∷ [])) (says-same says (suc k) seats)
 
   acks-if : (w : World) (m : ℕ) (t : Made) (spoiled b : Bool)
-      → scene_of s (cond b (called_in s w m (acks t.digest)) (says w m (false_ack s w t spoiled)))
+      → scene_of s (cond b (called_in s w m (acks t.digest)) (says s.seal w m (false_ack s w t spoiled)))
       ≡ cond b (called_scene s.rules (scene_of s w) m (acks t.digest)) (record (scene_of s w) { said = w.said ++ said_by m (false_ack_in (scene_of s w) t spoiled) ∷ [] })
-  acks-if w m t spoiled true = called-same s w m (acks t.digest)
+  acks-if w m t spoiled true = called-same s w m (acks t.digest) (plain-acks s t.digest)
   acks-if w m t spoiled false =
       ap (λ (d : Option Digest). record (scene_of s w) { said = w.said ++ said_by m (statement.Ack t.signed.tx.epoch t.digest (spoiled_if spoiled (digest_or_zero d))) ∷ [] })
       (says-same (executed_digest t.digest) 0 w.seats)
@@ -291,31 +283,37 @@ module _ (s : Setting) where
     by-rules : (work : Work) (next : World) → WorkedAs work next → scene_of s next ≡ worked (rules_in trust.accepts (scene_of s w)) (scene_of s w) work
     by-rules work next e = e ∙ ap (λ (r : Rules). worked r (scene_of s w) work) rules
 
-    by-call : (m : ℕ) (call : Call) → scene_of s (called_in s w m call) ≡ called_scene (rules_in trust.accepts (scene_of s w)) (scene_of s w) m call
-    by-call m call = by-rules (asks m call) (called_in s w m call) (called-same s w m call)
+    by-call : (m : ℕ) (call : Call) → IsPlain s call → scene_of s (called_in s w m call) ≡ called_scene (rules_in trust.accepts (scene_of s w)) (scene_of s w) m call
+    by-call m call plain = by-rules (asks m call) (called_in s w m call) (called-same s w m call plain)
 
     scene-step : (e : Event) → is_restart e ≡ false → scene_of s (happens s w e) ≡ steps_to trust (scene_of s w) e
     unfolding happens_over steps_to work_of
     scene-step (event.Tx name sender spoiled epoch gas budget inputs commands) other =
         tx-same trust w (record { name = name; sender = sender; spoiled = spoiled; epoch = epoch; gas = gas; budget = budget; inputs = inputs; commands = commands }) seal
-    scene-step (event.Vote m tx) other = by-rules (asked m (option_map signed_call (made_named w tx))) (voted_on s w m (made_named w tx)) (voted-same w m (made_named w tx))
-    scene-step (event.Fvote m tx origins) other = fvote-same w m origins (made_named w tx)
-    scene-step (event.Cert tx members) other = cert-same trust seal w members (made_named w tx)
+    scene-step (event.Vote m tx) other =
+        voted-same w m (made_named w tx)
+        ∙ ap (λ (r : Rules). voted_in s.seal r (scene_of s w) m (made_named w tx)) rules
+        ∙ ap (λ (seals : Signer → List ℕ → Digest). voted_in seals (rules_in trust.accepts (scene_of s w)) (scene_of s w) m (made_named w tx)) seal
+    scene-step (event.Fvote m tx origins) other = fvote-same trust seal w m origins (made_named w tx)
+    scene-step (event.Cert tx members) other = cert-same trust w members (made_named w tx)
     scene-step (event.Send m tx) other = by-rules (asked m (option_map held_call (cert_named w tx))) (sent s w m (cert_named w tx)) (sent-same w m (cert_named w tx))
     scene-step (event.Order tx) other = order-same w (cert_named w tx)
     scene-step (event.OrderEnd m) other = end-same trust w m rules seal
     scene-step event.OrderCommit other = refl
     scene-step (event.See m entries) other =
         by-rules (hands m (min entries (entries_left (bare_world (scene_of s w)) (state_at (scene_of s w) m)))) (sees_on s (min entries (entries_left w (member_at s w m))) w m) (see-same w m entries)
-    scene-step (event.Run m workers) other = by-call m runs
-    scene-step (event.Close m) other = by-call m closes
-    scene-step (event.End m) other = by-call m ends
-    scene-step (event.Turn m) other = by-call m turns
+    scene-step (event.Run m workers) other = by-call m runs (plain-runs s)
+    scene-step (event.Close m) other = by-call m closes (plain-closes s)
+    scene-step (event.End m) other = by-call m ends (plain-ends s)
+    scene-step (event.Turn m) other = by-call m turns (plain-turns s)
     scene-step (event.Show m) other = refl
     scene-step (event.Stop m kept) other = changed-same s w m (armed_seat kept) (arming kept) (λ seat at. refl)
     scene-step (event.Restart m) other = absurd (cc)
-    scene-step (event.RawVote m bytes) other = by-call m (votes bytes)
-    scene-step (event.RawHold m bytes) other = by-call m (holds bytes)
+    scene-step (event.RawVote m bytes) other =
+        vote-called s w m bytes
+        ∙ ap (λ (r : Rules). voted_scene s.seal r (scene_of s w) m bytes) rules
+        ∙ ap (λ (seals : Signer → List ℕ → Digest). voted_scene seals (rules_in trust.accepts (scene_of s w)) (scene_of s w) m bytes) seal
+    scene-step (event.RawHold m bytes) other = by-call m (holds bytes) (plain-holds s bytes)
     scene-step (event.Ack m tx spoiled) other =
         ack-same w m spoiled (made_named w tx) ∙ ap (λ (r : Rules). acked_in r (scene_of s w) m spoiled (made_named w tx)) rules
     scene-step (event.Final tx members) other = refl

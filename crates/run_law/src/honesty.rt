@@ -12,7 +12,8 @@ pub fn read_runs_are_spellable()
     ensures { ReadRunsAreSpellable }
 {}
 
-/// Without lines that hand over bytes as a certificate, no statement of its run is forged.
+/// Without lines that hand over bytes as a certificate, no statement of its run is forged. It is said of keyed seals, which
+/// have 32 bytes: a certificate that collects a seal of another length is not read back as itself.
 pub fn nothing_read_is_forged()
     ensures { NothingReadIsForged }
 {}

@@ -44,8 +44,8 @@ pub fn steps_of_a_world()
 
 /// Each line but a restart does to what code keeps of a member what it does to its records, and gives the same lines.
 pub fn steps_of_posts()
-    ensures steps { (s : Setting) (w : World) (e : Event) → is_restart e ≡ false → reseated (post_of s) (happens s w e) ≡ happens_over (by_posts s.rules) s (reseated (post_of s) w) e }
-    ensures lines { (s : Setting) (w : World) (e : Event) → is_restart e ≡ false → lines_of s w e ≡ lines_over (by_posts s.rules) s (reseated (post_of s) w) e }
+    ensures steps { (s : Setting) (w : World) (e : Event) → is_restart e ≡ false → reseated (post_of s) (happens s w e) ≡ happens_over (by_posts s.seal s.rules) s (reseated (post_of s) w) e }
+    ensures lines { (s : Setting) (w : World) (e : Event) → is_restart e ≡ false → lines_of s w e ≡ lines_over (by_posts s.seal s.rules) s (reseated (post_of s) w) e }
 {}
 
 /// Observable records follow the world: what a line leaves in the scene is what the definition appends, and if the line

@@ -16,12 +16,12 @@ use Rattle.protocol_spec.specs.Chain.Words.{Has, Each}
 use Rattle.protocol_spec.specs.Member.Member.{Member, state}
 use Rattle.protocol_spec.specs.Member.Calls.{Call, votes, holds, runs, closes, ends, turns, acks, due}
 use Rattle.world_spec.specs.Setting.{Name, Setting}
-use Rattle.world_spec.specs.World.{Seat, Said, Made, World, Reached, finds_down, stops, answers, new_world, member_in, reached_up, reached_seat, appended, stopped_seat, behind, called_seat, called_in, called_if, sees_on, stated, said_by, honest_seat, is_honest, member_at, next_call, called_over, armed_seat, started_seat}
+use Rattle.world_spec.specs.World.{Seat, Said, Made, World, Reached, finds_down, stops, answers, new_world, member_in, reached_up, reached_seat, appended, stopped_seat, behind, called_seat, called_in, called_if, sees_on, stated, sealed_by, honest_seat, is_honest, member_at, next_call, called_over, armed_seat, started_seat}
 use Rattle.world_spec.specs.Names.{made_named, cert_named}
 use Rattle.world_spec.specs.Making.{made_over}
 use Rattle.world_spec.specs.Step.{happens, says, voted_on, fvoted, fvote_origins, formed, formed_as, votes_collected, sent, ordered, honest_end, ordered_end, risen_if, has_ended, appended_entry, sealed_end, acked, false_ack, on_seat, entries_left, end_in, last_said, happens_over}
 use Rattle.world_spec.specs.Run.{run, world_after}
-use Rattle.world_spec.specs.Assumptions.{calls_of}
+use Rattle.world_spec.specs.Assumptions.{calls_of, HasSaid}
 use Rattle.safety_law.proofs.InWorld.{each-any, kept-called, kept-line, new-seats}
 
 -- the seat at a place, after a change of one
@@ -40,10 +40,10 @@ get-set (x ∷ xs) (suc m) (suc n) y q e = go (get-set xs m n y q e)
     go (inr h) = inr h
 
 -- what was said by one member
-pub has-said : (m : ℕ) (sts : List Statement) (x : Said) → Has (map (said_by m) sts) x → (x.member ≡ m) × Has sts x.statement
-has-said m [] x h = absurd h
-has-said m (st ∷ sts) x (inl e) = (sym (ap (λ (y : Said). y.member) e), inl (ap (λ (y : Said). y.statement) e))
-has-said m (st ∷ sts) x (inr h) = let rest = has-said m sts x h in (rest.0, inr rest.1)
+pub has-said : (s : Setting) (m : ℕ) (sts : List Statement) (x : Said) → Has (map (sealed_by s.seal m) sts) x → (x.member ≡ m) × Has sts x.statement
+has-said s m [] x h = absurd h
+has-said s m (st ∷ sts) x (inl e) = (sym (ap (λ (y : Said). y.member) e), inl (ap (λ (y : Said). y.statement) e))
+has-said s m (st ∷ sts) x (inr h) = let rest = has-said s m sts x h in (rest.0, inr rest.1)
 
 module _ (s : Setting) (P : List Record → Type 0) (B : List Record → Statement → Type 0)
     (step : (records : List Record) (call : Call) (x : Record) → due s.rules (state s.rules s.opening records) call ≡ Some x → P records → P (records ++ x ∷ []))
@@ -63,22 +63,22 @@ module _ (s : Setting) (P : List Record → Type 0) (B : List Record → Stateme
           (keeps x.statement (back x h seat (ap (slice_get seats) p.0 ∙ e) (sym same ∙ (ap (λ (y : Seat). y.honest) p.1 ∙ honest))))
       go (inr a) = back x h q a honest
 
-  back-add : (said : List Said) (seats : List Seat) (m : ℕ) (seat : Seat) (sts : List Statement) → slice_get seats m ≡ Some seat → ((st : Statement) → Has sts st → B seat.records st) → Back said seats → Back (said ++ map (said_by m) sts) seats
-  back-add said seats m seat sts e new back x h q at honest = go (has_parts said (map (said_by m) sts) x h)
+  back-add : (said : List Said) (seats : List Seat) (m : ℕ) (seat : Seat) (sts : List Statement) → slice_get seats m ≡ Some seat → ((st : Statement) → Has sts st → B seat.records st) → Back said seats → Back (said ++ map (sealed_by s.seal m) sts) seats
+  back-add said seats m seat sts e new back x h q at honest = go (has_parts said (map (sealed_by s.seal m) sts) x h)
     where
       same : (a b : Seat) → Some a ≡ Some b → a ≡ b
       same a b e = cc
 
-      go : Has said x ⊎ Has (map (said_by m) sts) x → B q.records x.statement
+      go : Has said x ⊎ Has (map (sealed_by s.seal m) sts) x → B q.records x.statement
       go (inl h) = back x h q at honest
-      go (inr h) = let by = has-said m sts x h in
+      go (inr h) = let by = has-said s m sts x h in
           subst (λ (y : Seat). B y.records x.statement) (same seat q (sym e ∙ (ap (slice_get seats) (sym by.0) ∙ at))) (new x.statement by.1)
 
   -- a faulty member may say what it likes
-  back-faulty : (w : World) (m : ℕ) (st : Statement) → is_honest w m ≡ false → Backs w → Backs (says w m st)
-  back-faulty w m st faulty back x h q at honest = go (has_parts w.said (said_by m st ∷ []) x h)
+  back-faulty : (w : World) (m : ℕ) (st : Statement) → is_honest w m ≡ false → Backs w → Backs (says s.seal w m st)
+  back-faulty w m st faulty back x h q at honest = go (has_parts w.said (sealed_by s.seal m st ∷ []) x h)
     where
-      go : Has w.said x ⊎ Has (said_by m st ∷ []) x → B q.records x.statement
+      go : Has w.said x ⊎ Has (sealed_by s.seal m st ∷ []) x → B q.records x.statement
       go (inl h) = back x h q at honest
       go (inr (inl e)) = absurd (let flag = ap honest_seat (ap (slice_get w.seats) (ap (λ (y : Said). y.member) e) ∙ at) in cc)
       go (inr (inr h)) = absurd h
@@ -163,11 +163,11 @@ module _ (s : Setting) (P : List Record → Type 0) (B : List Record → Stateme
   back-if true v w one other = one refl
   back-if false v w one other = other refl
 
-  back-fvoted : (w : World) (m : ℕ) (words : List (Option Name)) (t : Option Made) → Backs w → Backs (fvoted w m words t)
+  back-fvoted : (w : World) (m : ℕ) (words : List (Option Name)) (t : Option Made) → Backs w → Backs (fvoted s w m words t)
   back-fvoted w m words None back = back
-  back-fvoted w m words (Some t) back = back-if (is_honest w m) w (says w m (statement.Vote t.signed.tx.epoch t.digest (fvote_origins w t words))) (λ _. back) (λ faulty. back-faulty w m _ faulty back)
+  back-fvoted w m words (Some t) back = back-if (is_honest w m) w (says s.seal w m (statement.Vote t.signed.tx.epoch t.digest (fvote_origins w t words))) (λ _. back) (λ faulty. back-faulty w m _ faulty back)
 
-  back-formed_as : (w : World) (t : Made) (ms : List ℕ) (c : Collected) → Backs w → Backs (formed_as s w t ms c)
+  back-formed_as : (w : World) (t : Made) (ms : List ℕ) (c : Collected) → Backs w → Backs (formed_as w t ms c)
   back-formed_as w t ms (lacks m) back = back
   back-formed_as w t ms (short weight total) back = back
   back-formed_as w t ms (differ a b) back = back
@@ -198,7 +198,7 @@ module _ (s : Setting) (P : List Record → Type 0) (B : List Record → Stateme
 
   back-acked : (w : World) (m : ℕ) (spoiled : Bool) (t : Option Made) → All w → Backs w → Backs (acked s w m spoiled t)
   back-acked w m spoiled None all back = back
-  back-acked w m spoiled (Some t) all back = back-if (is_honest w m) (called_in s w m (acks t.digest)) (says w m (false_ack s w t spoiled)) (λ _. back-called w m (acks t.digest) all back) (λ faulty. back-faulty w m _ faulty back)
+  back-acked w m spoiled (Some t) all back = back-if (is_honest w m) (called_in s w m (acks t.digest)) (says s.seal w m (false_ack s w t spoiled)) (λ _. back-called w m (acks t.digest) all back) (λ faulty. back-faulty w m _ faulty back)
 
   back-line : (w : World) (e : Event) → All w → Backs w → Backs (happens s w e)
   unfolding happens_over made_over
@@ -208,7 +208,7 @@ module _ (s : Setting) (P : List Record → Type 0) (B : List Record → Stateme
   back-line w (event.Cert tx members) all back = back-formed w members (made_named w tx) back
   back-line w (event.Send m tx) all back = back-sent w m (cert_named w tx) all back
   back-line w (event.Order tx) all back = back-ordered w (cert_named w tx) back
-  back-line w (event.OrderEnd m) all back = back-if (is_honest w m) (honest_end s w m (last_said end_in m w.said)) (ordered_end s (says w m (statement.End w.epoch)) m w.epoch) (λ _. back-honest_end w m (last_said end_in m w.said) back) (λ faulty. back-end (says w m (statement.End w.epoch)) m w.epoch (back-faulty w m (statement.End w.epoch) faulty back))
+  back-line w (event.OrderEnd m) all back = back-if (is_honest w m) (honest_end s w m (last_said end_in m w.said)) (ordered_end s (says s.seal w m (statement.End w.epoch)) m w.epoch) (λ _. back-honest_end w m (last_said end_in m w.said) back) (λ faulty. back-end (says s.seal w m (statement.End w.epoch)) m w.epoch (back-faulty w m (statement.End w.epoch) faulty back))
   back-line w event.OrderCommit all back = back
   back-line w (event.See m entries) all back = back-sees (min entries (entries_left w (member_at s w m))) w m all back
   back-line w (event.Run m workers) all back = back-called w m runs all back
@@ -227,7 +227,7 @@ module _ (s : Setting) (P : List Record → Type 0) (B : List Record → Stateme
   back-run [] w all back = back
   back-run (e ∷ events) w all back = back-run events (happens s w e) (kept-line s (λ _. Unit {0}) P (λ records call x g. step records call x) w e (each-any (calls_of s w e)) all) (back-line w e all back)
 
-  pub backed : P [] → (events : List Event) (m : ℕ) (seat : Seat) → slice_get (world_after s events).seats m ≡ Some seat → seat.honest ≡ true → (st : Statement) → Has (world_after s events).said (said_by m st) → B seat.records st
+  pub backed : P [] → (events : List Event) (m : ℕ) (seat : Seat) → slice_get (world_after s events).seats m ≡ Some seat → seat.honest ≡ true → (st : Statement) → HasSaid (world_after s events) m st → B seat.records st
   unfolding world_after new_world
   backed none events m seat at honest st h =
-      back-run events (new_world s) (new-seats s (λ _. Unit {0}) P (λ records call x g. step records call x) s.honest none) (λ x no. absurd no) (said_by m st) h seat at honest
+      back-run events (new_world s) (new-seats s (λ _. Unit {0}) P (λ records call x g. step records call x) s.honest none) (λ x no. absurd no) (record { member = m; statement = st; seal = h.0 }) h.1 seat at honest

@@ -6,12 +6,13 @@ use Rattle.protocol_spec.proofs.ListLemmas.{has_left}
 use Rattle.protocol_spec.specs.Chain.Words.{Has}
 use Rattle.protocol_spec.specs.Member.Calls.{Call}
 use Rattle.world_spec.specs.Setting.{Setting}
-use Rattle.world_spec.specs.World.{Seat, Said, Made, Formed, World, Reached, finds_down, stops, answers, new_world, said_by, with_seat, stopped_seat, appended, stated, reached_seat, behind, called_seat, called_in, honest_seat, is_honest, called_over}
+use Rattle.world_spec.specs.World.{Seat, Said, Made, Formed, World, Reached, finds_down, stops, answers, new_world, sealed_by, with_seat, stopped_seat, appended, stated, reached_seat, behind, called_seat, called_in, honest_seat, is_honest, called_over}
 use Rattle.world_spec.specs.Step.{happens}
 use Rattle.world_spec.specs.Run.{run, world_after}
-use Rattle.world_spec.specs.Assumptions.{calls_of}
+use Rattle.world_spec.specs.Assumptions.{calls_of, HasSaid}
 use Rattle.safety_law.proofs.InWorld.{each-any}
 use Rattle.safety_law.proofs.Steps.{Keeps, step-line}
+use Rattle.chain_messages.specs.declared.messages.Statement.{Statement}
 
 pub record IsGrown (w v : World) : Type 0 where
   pub said : (x : Said) → Has w.said x → Has v.said x
@@ -21,6 +22,9 @@ pub record IsGrown (w v : World) : Type 0 where
 
 pub grown-same : (w : World) → IsGrown w w
 grown-same w = record { said = λ x h. h; honest = λ m. refl; txs = λ t h. h; certs = λ f h. h }
+
+pub said-on : (w v : World) → IsGrown w v → (m : ℕ) (st : Statement) → HasSaid w m st → HasSaid v m st
+said-on w v g m st (seal, h) = (seal, g.said (record { member = m; statement = st; seal = seal }) h)
 
 pub grown-then : (u v w : World) → IsGrown u v → IsGrown v w → IsGrown u w
 grown-then u v w g h = record {
@@ -45,7 +49,7 @@ module _ (s : Setting) where
   grown-behind w m call seat finds_down at = grown-same w
   grown-behind w m call seat (stops kept x) at = grown-seat w m seat (stopped_seat seat kept x) at refl
   grown-behind w m call seat (answers before x) at = record {
-    said = λ y h. has_left w.said (map (said_by m) (stated s.rules before call)) y h;
+    said = λ y h. has_left w.said (map (sealed_by s.seal m) (stated s.rules before call)) y h;
     honest = λ n. honest-set w.seats m seat (record seat { records = appended seat.records x }) n at refl;
     txs = λ t h. h;
     certs = λ f h. h;
@@ -63,7 +67,7 @@ module _ (s : Setting) where
   pub grown-keeps : (u : World) → Keeps s (λ _ _. Unit {0}) (IsGrown u)
   grown-keeps u = record {
     calls = λ w m call _ g. grown-then u w (called_in s w m call) g (grown-called w m call);
-    lies = λ w m st _ _ g. record { said = λ x h. has_left w.said (said_by m st ∷ []) x (g.said x h); honest = g.honest; txs = g.txs; certs = g.certs };
+    lies = λ w m st _ _ g. record { said = λ x h. has_left w.said (sealed_by s.seal m st ∷ []) x (g.said x h); honest = g.honest; txs = g.txs; certs = g.certs };
     seats = λ w m seat new at same _ g. grown-then u w (with_seat w m new) g (grown-seat w m seat new at same);
     enters = λ w e _ g. record { said = g.said; honest = g.honest; txs = g.txs; certs = g.certs };
     rises = λ w g. record { said = g.said; honest = g.honest; txs = g.txs; certs = g.certs };
@@ -85,6 +89,9 @@ module _ (s : Setting) where
   pub world-append : (front back : List Event) → world_after s (front ++ back) ≡ run s back (world_after s front)
   unfolding world_after
   world-append front back = run-append front back (new_world s)
+
+pub statement-grows : (s : Setting) (front back : List Event) (m : ℕ) (st : Statement) → HasSaid (world_after s front) m st → HasSaid (world_after s (front ++ back)) m st
+statement-grows s front back m st h = subst (λ (v : World). HasSaid v m st) (sym (world-append s front back)) (said-on (world_after s front) (run s back (world_after s front)) (grown-run s back (world_after s front)) m st h)
 
 pub statements-grow : (s : Setting) (front back : List Event) (x : Said) → Has (world_after s front).said x → Has (world_after s (front ++ back)).said x
 statements-grow s front back x h = subst (λ (v : World). Has v.said x) (sym (world-append s front back)) ((grown-run s back (world_after s front)).said x h)

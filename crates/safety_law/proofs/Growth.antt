@@ -86,11 +86,11 @@ module _ (s : Setting) where
   grows-if true w v u one other = one
   grows-if false w v u one other = other
 
-  grows-fvoted : (w : World) (m : ℕ) (words : List (Option Name)) (t : Option Made) → Grows w (fvoted w m words t)
+  grows-fvoted : (w : World) (m : ℕ) (words : List (Option Name)) (t : Option Made) → Grows w (fvoted s w m words t)
   grows-fvoted w m words None = grown-same w.sequences
   grows-fvoted w m words (Some t) = grows-if (is_honest w m) w w _ (grown-same w.sequences) (grown-same w.sequences)
 
-  grows-formed_as : (w : World) (t : Made) (ms : List ℕ) (c : Collected) → Grows w (formed_as s w t ms c)
+  grows-formed_as : (w : World) (t : Made) (ms : List ℕ) (c : Collected) → Grows w (formed_as w t ms c)
   grows-formed_as w t ms (lacks m) = grown-same w.sequences
   grows-formed_as w t ms (short weight total) = grown-same w.sequences
   grows-formed_as w t ms (differ a b) = grown-same w.sequences
@@ -136,7 +136,7 @@ module _ (s : Setting) where
   grows-line w (event.Cert tx members) = grows-formed w members (made_named w tx)
   grows-line w (event.Send m tx) = grows-sent w m (cert_named w tx)
   grows-line w (event.Order tx) = grows-ordered w (cert_named w tx)
-  grows-line w (event.OrderEnd m) = grows-if (is_honest w m) w _ _ (grows-honest_end w m (last_said end_in m w.said)) (grows-end (says w m (statement.End w.epoch)) m w.epoch)
+  grows-line w (event.OrderEnd m) = grows-if (is_honest w m) w _ _ (grows-honest_end w m (last_said end_in m w.said)) (grows-end (says s.seal w m (statement.End w.epoch)) m w.epoch)
   grows-line w event.OrderCommit = grown-set w.sequences w.epoch entry.Commit
   grows-line w (event.See m entries) = grows-equal w (sees_on s (min entries (entries_left w (member_at s w m))) w m) (sees-same (min entries (entries_left w (member_at s w m))) w m)
   grows-line w (event.Run m workers) = grows-called w m runs

@@ -96,11 +96,11 @@ module _ (s : Setting) (Given : Call → Type 0) (P : List Record → Type 0) (s
   kept-if true v w one other = one
   kept-if false v w one other = other
 
-  kept-fvoted : (w : World) (m : ℕ) (words : List (Option Name)) (t : Option Made) → AllSeats w → AllSeats (fvoted w m words t)
+  kept-fvoted : (w : World) (m : ℕ) (words : List (Option Name)) (t : Option Made) → AllSeats w → AllSeats (fvoted s w m words t)
   kept-fvoted w m words None all = all
   kept-fvoted w m words (Some t) all = kept-if _ w _ all all
 
-  kept-formed_as : (w : World) (t : Made) (ms : List ℕ) (c : Collected) → AllSeats w → AllSeats (formed_as s w t ms c)
+  kept-formed_as : (w : World) (t : Made) (ms : List ℕ) (c : Collected) → AllSeats w → AllSeats (formed_as w t ms c)
   kept-formed_as w t ms (lacks m) all = all
   kept-formed_as w t ms (short weight total) all = all
   kept-formed_as w t ms (differ a b) all = all

@@ -33,10 +33,10 @@ use Rattle.protocol_spec.specs.Member.Votes.{Cast, vote_origins}
 use Rattle.protocol_spec.specs.Member.Member.{Member, ballot, vote_for, cast_of, after, state}
 use Rattle.protocol_spec.specs.Member.Calls.{Call, votes, holds, sees, runs, closes, ends, turns, acks, new_vote_cases, voted_as, new_vote, vote_again, unsealed_of, vote_read, vote_stopped, vote_answer, see_answer, run_answer, end_answer, ack_answer, end_cases, acknowledged, halted, vote_record, due}
 use Rattle.world_spec.specs.Setting.{Setting}
-use Rattle.world_spec.specs.World.{Seat, appended, stated, said_by, voted_statement, built_statements, ran_statements, answered_statement, checkpoint_statement}
+use Rattle.world_spec.specs.World.{Seat, appended, stated, voted_statement, built_statements, ran_statements, answered_statement, checkpoint_statement}
 use Rattle.world_spec.specs.Run.{world_after}
 use Rattle.safety_law.proofs.Apart.{state-push, due-free}
-use Rattle.world_spec.specs.Assumptions.{signed_read}
+use Rattle.world_spec.specs.Assumptions.{signed_read, HasSaid}
 use Rattle.safety_law.proofs.InWorld.{each-any}
 use Rattle.safety_law.proofs.Once.{has-push}
 use Rattle.safety_law.proofs.Backed.{backed}
@@ -177,7 +177,7 @@ unfolding state
 none-cast r opening v h = absurd h
 
 pub every-vote : (s : Setting) (events : List Event) (m : ℕ) (seat : Seat) → slice_get (world_after s events).seats m ≡ Some seat → seat.honest ≡ true
-    → (epoch : ℕ) (tx : Digest) (origins : List (Option Digest)) → Has (world_after s events).said (said_by m (statement.Vote epoch tx origins)) → IsKept seat.records epoch tx origins
+    → (epoch : ℕ) (tx : Digest) (origins : List (Option Digest)) → HasSaid (world_after s events) m (statement.Vote epoch tx origins) → IsKept seat.records epoch tx origins
 every-vote s events m seat at honest epoch tx origins h =
     backed s (λ records. AreCastKept records (state s.rules s.opening records).epoch (state s.rules s.opening records).votes) KeepsVote
     (λ records call x d kept. subst (λ (n : Member). AreCastKept (records ++ x ∷ []) n.epoch n.votes) (sym (state-push s.rules s.opening records x)) (cast-after s.rules (state s.rules s.opening records) records call x d kept))

@@ -1,7 +1,6 @@
 -- Each certificate that a line formed has the seals of a quorum.
 use Rattle.std.proofs.Common.{inl, inr, refl, sym, subst, ap}
 use Rattle.std.specs.Prelude.{◌≡◌, ◌⊎◌, ℕ, true, List, [], ◌∷◌, map, slice_get, Option, Some, None}
-use Rattle.chain_messages.specs.declared.messages.Statement.{Statement}
 use Rattle.chain_messages.specs.declared.messages.MemberSeal.{MemberSeal}
 use Rattle.schedule_text.specs.declared.words.Event.{Event}
 use Rattle.protocol_spec.specs.Chain.Collecting.{whole}
@@ -10,8 +9,8 @@ use Rattle.protocol_spec.specs.Chain.Committee.{weight, is_quorum}
 use Rattle.protocol_spec.specs.Chain.Certificates.{members_of}
 use Rattle.protocol_spec.specs.Member.Calls.{Call}
 use Rattle.world_spec.specs.Setting.{Setting}
-use Rattle.world_spec.specs.World.{Seat, Made, Formed, World, Reached, finds_down, stops, answers, new_world, reached_seat, behind, called_seat, called_in, called_over}
-use Rattle.world_spec.specs.Step.{first_origins, happens, certificate_of, vote_statement, sealed_by, votes_collected}
+use Rattle.world_spec.specs.World.{Seat, Made, Formed, World, Reached, finds_down, stops, answers, new_world, reached_seat, behind, called_seat, called_in, called_over, Said}
+use Rattle.world_spec.specs.Step.{first_origins, happens, certificate_of, collected_seal, votes_collected}
 use Rattle.world_spec.specs.Run.{world_after}
 use Rattle.world_spec.specs.Assumptions.{calls_of}
 use Rattle.safety_law.proofs.InWorld.{each-any}
@@ -34,9 +33,9 @@ module _ (s : Setting) where
   same-called w m call = same-seat w m call (slice_get w.seats m)
 
   -- the members of a formed certificate are those of the line
-  same-members : (st : Statement) (ms : List ℕ) → map (λ (x : MemberSeal). x.member) (map (sealed_by s st) ms) ≡ ms
-  same-members st [] = refl
-  same-members st (m ∷ ms) = ap (λ (ns : List ℕ). m ∷ ns) (same-members st ms)
+  same-members : (said : List Said) (t : Made) (ms : List ℕ) → map (λ (x : MemberSeal). x.member) (map (collected_seal said t) ms) ≡ ms
+  same-members said t [] = refl
+  same-members said t (m ∷ ms) = ap (λ (ns : List ℕ). m ∷ ns) (same-members said t ms)
 
   abbrev IsQuorate : Formed → Type 0
   IsQuorate f = is_quorum s.rules.stakes (weight s.rules.stakes (members_of f.cert)) ≡ true
@@ -44,14 +43,14 @@ module _ (s : Setting) where
   abbrev AreQuorate : World → Type 0
   AreQuorate w = (f : Formed) → Has w.certs f → IsQuorate f
 
-  quorate-forms : (w : World) (t : Made) (ms : List ℕ) → votes_collected s w t ms ≡ whole → AreQuorate w → AreQuorate (with_formed s w t ms)
+  quorate-forms : (w : World) (t : Made) (ms : List ℕ) → votes_collected s w t ms ≡ whole → AreQuorate w → AreQuorate (with_formed w t ms)
   quorate-forms w t ms e all f h = go (has-push w.certs new f h)
     where
       new : Formed
-      new = record { name = t.name; cert = certificate_of s t (first_origins w t ms) ms }
+      new = record { name = t.name; cert = certificate_of w.said t (first_origins w t ms) ms }
 
       one : IsQuorate new
-      one = subst (λ (ns : List ℕ). is_quorum s.rules.stakes (weight s.rules.stakes ns) ≡ true) (sym (same-members (vote_statement t.signed.tx t.digest (first_origins w t ms)) ms)) (collected-quorum s w t ms e)
+      one = subst (λ (ns : List ℕ). is_quorum s.rules.stakes (weight s.rules.stakes ns) ≡ true) (sym (same-members w.said t ms)) (collected-quorum s w t ms e)
 
       go : Has w.certs f ⊎ (new ≡ f) → IsQuorate f
       go (inl h) = all f h

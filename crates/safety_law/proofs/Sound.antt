@@ -2,7 +2,7 @@
 -- was formed or stated.
 use Rattle.std.proofs.Common.{inl, inr, refl, sym, subst, ap, ◌∙◌}
 use Rattle.std.proofs.lemmas.Bool.{eqb-true}
-use Rattle.std.specs.Prelude.{◌≡◌, ◌⊎◌, ℕ, zero, suc, Bool, true, false, not, ◌&&◌, ◌==◌, List, [], ◌∷◌, ◌++◌, map, slice_get, slice_set, Option, Some, None}
+use Rattle.std.specs.Prelude.{◌≡◌, ◌⊎◌, ℕ, zero, suc, Bool, true, false, not, ◌&&◌, ◌==◌, List, [], ◌∷◌, ◌++◌, map, slice_get, slice_set, Option, Some, None, cond, option_map, option_and_then}
 use Rattle.digest_core.specs.declared.Digest.{Digest}
 use Rattle.chain_types.specs.Equal.{digest_eq}
 use Rattle.chain_types.specs.Digests.{transaction_digest}
@@ -21,14 +21,16 @@ use Rattle.protocol_spec.specs.Chain.Committee.{weight, total_of, is_quorum}
 use Rattle.protocol_spec.specs.Chain.Certificates.{vote_of}
 use Rattle.protocol_spec.proofs.Truth.{and_true, where_not_true}
 use Rattle.protocol_spec.specs.Member.Calls.{Call}
-use Rattle.world_spec.specs.Setting.{Setting, member_seal}
-use Rattle.world_spec.specs.World.{Seat, Made, Formed, World, Reached, finds_down, stops, answers, said_by, with_seat, stopped_seat, reached_seat, behind, called_seat, called_in, is_honest, entries_at, list_or_none, called_over}
-use Rattle.world_spec.specs.Step.{says, vote_in, last_said, first_origins, vote_statement, sealed_by, certificate_of, votes_collected, appended_entry, open_entries, risen_if}
-use Rattle.world_spec.specs.Making.{TxLine, with_made}
+use Rattle.world_spec.specs.Setting.{Setting, member_seal, seal_of_member}
+use Rattle.world_spec.specs.World.{Seat, Made, Formed, World, Reached, finds_down, stops, answers, said_under, sealed_by, with_seat, stopped_seat, reached_seat, behind, called_seat, called_in, is_honest, entries_at, list_or_none, called_over, Said, kept_seal, stated}
+use Rattle.world_spec.specs.Step.{says, says_of, vote_in, seal_in, of_statement, the_seal, last_read, last_said, first_origins, vote_statement, certificate_of, collected_seal, votes_collected, appended_entry, open_entries, risen_if}
+use Rattle.world_spec.specs.Making.{TxLine, with_made, digest_or_zero}
 use Rattle.safety_law.proofs.Apart.{none-of}
 use Rattle.safety_law.proofs.Once.{has-push}
-use Rattle.safety_law.proofs.Steps.{Keeps, IsBacked, IsOfMade, last-said, with_formed}
-use Rattle.safety_law.proofs.Grown.{IsGrown, grown-same, grown-seat, grown-behind, grown-keeps}
+use Rattle.safety_law.proofs.Steps.{Keeps, IsBacked, IsIn, IsOfMade, last-said, with_formed}
+use Rattle.safety_law.proofs.Grown.{IsGrown, grown-same, grown-seat, grown-behind, grown-keeps, said-on}
+use Rattle.world_spec.specs.Assumptions.{HasSaid}
+use Rattle.protocol_spec.proofs.ListLemmas.{has_parts}
 
 -- ---- equal origins
 
@@ -140,11 +142,46 @@ module _ (s : Setting) (w : World) (t : Made) where
   pub collected-quorum : (ms : List ℕ) → votes_collected s w t ms ≡ whole → is_quorum s.rules.stakes (weight s.rules.stakes ms) ≡ true
   collected-quorum ms e = where_not_true (is_quorum s.rules.stakes (weight s.rules.stakes ms)) (short (weight s.rules.stakes ms) (total_of s.rules.stakes)) (free ms e).1
 
-  pub collected-said : (ms : List ℕ) (m : ℕ) → votes_collected s w t ms ≡ whole → Has ms m → Has w.said (said_by m (vote_statement t.signed.tx t.digest (first_origins w t ms)))
+  pub collected-said : (ms : List ℕ) (m : ℕ) → votes_collected s w t ms ≡ whole → Has ms m → HasSaid w m (vote_statement t.signed.tx t.digest (first_origins w t ms))
   collected-said ms m e h = go (last-said (vote_in t.signed.tx.epoch t.digest) m w.said (first_origins w t ms) (firsts ms m e h))
     where
-      go : (st : Statement) × Has w.said (said_by m st) × (vote_in t.signed.tx.epoch t.digest st ≡ Some (first_origins w t ms)) → Has w.said (said_by m (vote_statement t.signed.tx t.digest (first_origins w t ms)))
-      go (st, k, r) = subst (λ (x : Statement). Has w.said (said_by m x)) (is-vote t.signed.tx.epoch t.digest st (first_origins w t ms) r) k
+      go : IsIn (vote_in t.signed.tx.epoch t.digest) m w.said (first_origins w t ms) → HasSaid w m (vote_statement t.signed.tx t.digest (first_origins w t ms))
+      go (st, seal, k, r) = subst (HasSaid w m) (is-vote t.signed.tx.epoch t.digest st (first_origins w t ms) r) (seal, k)
+
+-- ---- the seals of votes, if each statement is under its member's seal
+
+module _ (s : Setting) (epoch : ℕ) (tx : Digest) (m : ℕ) where
+  abbrev vote_seal : List (Option Digest) → Option Digest
+  vote_seal origins = Some (seal_of_member s.seal m (statement.Vote epoch tx origins))
+
+  first-sealed : (a b : Option (List (Option Digest))) → first_some (option_map vote_seal a ∷ option_map vote_seal b ∷ []) ≡ option_map vote_seal (first_some (a ∷ b ∷ []))
+  first-sealed (Some x) b = refl
+  first-sealed None (Some y) = refl
+  first-sealed None None = refl
+
+  one-sealed : (x : Said) → x ≡ sealed_by s.seal x.member x.statement → says_of (seal_in epoch tx) m x ≡ option_map vote_seal (says_of (of_statement (vote_in epoch tx)) m x)
+  one-sealed x told = by (x.member == m) refl
+    where
+      under : (origins : List (Option Digest)) → x.member ≡ m → x.statement ≡ statement.Vote epoch tx origins → x.seal ≡ vote_seal origins
+      under origins n st =
+          ap (λ (y : Said). y.seal) told
+          ∙ ap (λ (z : Statement). kept_seal z (seal_of_member s.seal x.member z)) st
+          ∙ ap (λ (k : ℕ). Some (seal_of_member s.seal k (statement.Vote epoch tx origins))) n
+
+      of : (o : Option (List (Option Digest))) → x.member ≡ m → vote_in epoch tx x.statement ≡ o → option_map (λ _. x.seal) o ≡ option_map vote_seal o
+      of None n q = refl
+      of (Some origins) n q = ap (λ (d : Option Digest). Some d) (under origins n (is-vote epoch tx x.statement origins q))
+
+      by : (b : Bool) → (x.member == m) ≡ b → cond b (seal_in epoch tx x) None ≡ option_map vote_seal (cond b (vote_in epoch tx x.statement) None)
+      by true p = of (vote_in epoch tx x.statement) (eqb-true x.member m p) refl
+      by false p = refl
+
+  sealed-read : (said : List Said) → ((x : Said) → Has said x → x ≡ sealed_by s.seal x.member x.statement) → last_read (seal_in epoch tx) m said ≡ option_map vote_seal (last_said (vote_in epoch tx) m said)
+  sealed-read [] told = refl
+  sealed-read (x ∷ xs) told =
+      ap (λ (o : Option (Option Digest)). first_some (o ∷ says_of (seal_in epoch tx) m x ∷ [])) (sealed-read xs (λ y h. told y (inr h)))
+      ∙ ap (λ (o : Option (Option Digest)). first_some (option_map vote_seal (last_said (vote_in epoch tx) m xs) ∷ o ∷ [])) (one-sealed x (told x (inl refl)))
+      ∙ first-sealed (last_said (vote_in epoch tx) m xs) (says_of (of_statement (vote_in epoch tx)) m x)
 
 -- ---- a vote is for a transaction that was made or handed
 
@@ -155,13 +192,14 @@ IsGiven total txs t = ((x : Made) × Has txs x × (x.signed.tx ≡ t)) ⊎ ((x :
 
 pub record IsSound (s : Setting) (w : World) : Type 0 where
   pub made : (t : Made) → Has w.txs t → t.digest ≡ transaction_digest t.signed.tx
-  pub voted : (f : Formed) → Has w.certs f → (x : MemberSeal) → Has f.cert.seals x → Has w.said (said_by x.member (vote_of f.cert))
+  pub told : (x : Said) → Has w.said x → x ≡ sealed_by s.seal x.member x.statement
+  pub voted : (f : Formed) → Has w.certs f → (x : MemberSeal) → Has f.cert.seals x → Has w.said (said_under x.seal x.member (vote_of f.cert))
   pub sealed : (f : Formed) → Has w.certs f → (x : MemberSeal) → Has f.cert.seals x → x.seal ≡ member_seal s x.member (vote_of f.cert)
   pub backed : (es : List Entry) → Has w.sequences es → (e : Entry) → Has es e → IsBacked w e
 
 backed-grown : (w v : World) → IsGrown w v → (e : Entry) → IsBacked w e → IsBacked v e
 backed-grown w v g (entry.Cert c) (f, h, e) = (f, g.certs f h, e)
-backed-grown w v g (entry.End x) told = λ honest. g.said (said_by x.member x.statement) (told (sym (g.honest x.member) ∙ honest))
+backed-grown w v g (entry.End x) told = λ honest. said-on w v g x.member x.statement (told (sym (g.honest x.member) ∙ honest))
 backed-grown w v g entry.Commit backed = tt
 
 has-set : {A : Type 0} (xs : List A) (n : ℕ) (y x : A) → Has (slice_set xs n y) x → Has xs x ⊎ (y ≡ x)
@@ -191,9 +229,25 @@ entry-in qs n e h = go (slice_get qs n) refl h
     go None q h = absurd h
     go (Some es) q h = (es, get-has qs n es q, h)
 
+-- what is stated more is under the seals of its members
+told-more : (s : Setting) (said : List Said) (m : ℕ) (sts : List Statement) → ((x : Said) → Has said x → x ≡ sealed_by s.seal x.member x.statement)
+    → (x : Said) → Has (said ++ map (sealed_by s.seal m) sts) x → x ≡ sealed_by s.seal x.member x.statement
+told-more s said m sts told x h = go (has_parts said (map (sealed_by s.seal m) sts) x h)
+  where
+    new : (sts : List Statement) → Has (map (sealed_by s.seal m) sts) x → x ≡ sealed_by s.seal x.member x.statement
+    new [] h = absurd h
+    new (st ∷ sts) (inl e) = subst (λ (y : Said). y ≡ sealed_by s.seal y.member y.statement) e refl
+    new (st ∷ sts) (inr h) = new sts h
+
+    go : Has said x ⊎ Has (map (sealed_by s.seal m) sts) x → x ≡ sealed_by s.seal x.member x.statement
+    go (inl h) = told x h
+    go (inr h) = new sts h
+
 -- if transactions, certificates and sequences stay
-sound-as : (s : Setting) (w v : World) → IsGrown w v → v.txs ≡ w.txs → v.certs ≡ w.certs → v.sequences ≡ w.sequences → IsSound s w → IsSound s v
-sound-as s w v g txs certs sequences sound = record {
+sound-as : (s : Setting) (w v : World) → IsGrown w v → v.txs ≡ w.txs → v.certs ≡ w.certs → v.sequences ≡ w.sequences
+    → ((x : Said) → Has v.said x → x ≡ sealed_by s.seal x.member x.statement) → IsSound s w → IsSound s v
+sound-as s w v g txs certs sequences told sound = record {
+  told = told;
   made = λ t h. sound.made t (subst (λ (ts : List Made). Has ts t) txs h);
   voted = λ f h x k. g.said _ (sound.voted f (subst (λ (fs : List Formed). Has fs f) certs h) x k);
   sealed = λ f h x k. sound.sealed f (subst (λ (fs : List Formed). Has fs f) certs h) x k;
@@ -204,9 +258,9 @@ module _ (s : Setting) where
   sound-behind : (w : World) (m : ℕ) (call : Call) (seat : Seat) (r : Reached) → slice_get w.seats m ≡ Some seat → IsSound s w → IsSound s (behind s w m call seat r)
   sound-behind w m call seat finds_down at sound = sound
   sound-behind w m call seat (stops kept x) at sound =
-      sound-as s w (with_seat w m (stopped_seat seat kept x)) (grown-seat w m seat (stopped_seat seat kept x) at refl) refl refl refl sound
+      sound-as s w (with_seat w m (stopped_seat seat kept x)) (grown-seat w m seat (stopped_seat seat kept x) at refl) refl refl refl sound.told sound
   sound-behind w m call seat (answers before x) at sound =
-      sound-as s w (behind s w m call seat (answers before x)) (grown-behind s w m call seat (answers before x) at) refl refl refl sound
+      sound-as s w (behind s w m call seat (answers before x)) (grown-behind s w m call seat (answers before x) at) refl refl refl (told-more s w.said m (stated s.rules before call) sound.told) sound
 
   sound-called_seat : (w : World) (m : ℕ) (call : Call) (seat : Option Seat) → slice_get w.seats m ≡ seat → IsSound s w → IsSound s (called_seat s w m call seat)
   sound-called_seat w m call None at sound = sound
@@ -216,12 +270,12 @@ module _ (s : Setting) where
   unfolding called_over
   sound-called w m call sound = sound-called_seat w m call (slice_get w.seats m) refl sound
 
-  sound-says : (w : World) (m : ℕ) (st : Statement) → is_honest w m ≡ false → IsOfMade w st → IsSound s w → IsSound s (says w m st)
+  sound-says : (w : World) (m : ℕ) (st : Statement) → is_honest w m ≡ false → IsOfMade w st → IsSound s w → IsSound s (says s.seal w m st)
   sound-says w m st faulty of_made sound =
-      sound-as s w (says w m st) ((grown-keeps s w).lies w m st faulty of_made (grown-same w)) refl refl refl sound
+      sound-as s w (says s.seal w m st) ((grown-keeps s w).lies w m st faulty of_made (grown-same w)) refl refl refl (told-more s w.said m (st ∷ []) sound.told) sound
 
   sound-enters : (w : World) (e : Entry) → IsBacked w e → IsSound s w → IsSound s (appended_entry w e)
-  sound-enters w e backed sound = record { made = sound.made; voted = sound.voted; sealed = sound.sealed; backed = entries }
+  sound-enters w e backed sound = record { made = sound.made; told = sound.told; voted = sound.voted; sealed = sound.sealed; backed = entries }
     where
       grown : IsGrown w (appended_entry w e)
       grown = (grown-keeps s w).enters w e backed (grown-same w)
@@ -238,7 +292,7 @@ module _ (s : Setting) where
           go (inr q) = backed-grown w (appended_entry w e) grown x (newer x (has-push (open_entries w) e x (subst (λ (ys : List Entry). Has ys x) (sym q) k)))
 
   sound-rises : (w : World) → IsSound s w → IsSound s (risen_if true w)
-  sound-rises w sound = record { made = sound.made; voted = sound.voted; sealed = sound.sealed; backed = entries }
+  sound-rises w sound = record { made = sound.made; told = sound.told; voted = sound.voted; sealed = sound.sealed; backed = entries }
     where
       entries : (es : List Entry) → Has (w.sequences ++ [] ∷ []) es → (x : Entry) → Has es x → IsBacked (risen_if true w) x
       entries es h x k = go (has-push w.sequences [] es h)
@@ -250,6 +304,7 @@ module _ (s : Setting) where
   sound-makes : (w : World) (l : TxLine) (t : Made) → t.digest ≡ transaction_digest t.signed.tx → IsSound s w → IsSound s (with_made w l t)
   sound-makes w l t digest sound = record {
     made = λ x h. made x (has-push w.txs t x h);
+    told = sound.told;
     voted = sound.voted;
     sealed = sound.sealed;
     backed = λ es h e k. backed-grown w (with_made w l t) ((grown-keeps s w).makes w l t digest (grown-same w)) e (sound.backed es h e k);
@@ -259,40 +314,50 @@ module _ (s : Setting) where
       made x (inl h) = sound.made x h
       made x (inr e) = subst (λ (y : Made). y.digest ≡ transaction_digest y.signed.tx) e digest
 
-  has-sealed : (st : Statement) (ms : List ℕ) (x : MemberSeal) → Has (map (sealed_by s st) ms) x → Has ms x.member
-  has-sealed st [] x h = absurd h
-  has-sealed st (m ∷ ms) x (inl e) = inl (ap (λ (y : MemberSeal). y.member) e)
-  has-sealed st (m ∷ ms) x (inr h) = inr (has-sealed st ms x h)
+  has-collected : (said : List Said) (t : Made) (ms : List ℕ) (x : MemberSeal) → Has (map (collected_seal said t) ms) x → Has ms x.member × (x ≡ collected_seal said t x.member)
+  has-collected said t [] x h = absurd h
+  has-collected said t (m ∷ ms) x (inl e) = (inl (ap (λ (y : MemberSeal). y.member) e), subst (λ (y : MemberSeal). y ≡ collected_seal said t y.member) e refl)
+  has-collected said t (m ∷ ms) x (inr h) = let rest = has-collected said t ms x h in (inr rest.0, rest.1)
 
-  their-seals : (st : Statement) (ms : List ℕ) (x : MemberSeal) → Has (map (sealed_by s st) ms) x → x.seal ≡ member_seal s x.member st
-  their-seals st [] x h = absurd h
-  their-seals st (m ∷ ms) x (inl e) = subst (λ (y : MemberSeal). y.seal ≡ member_seal s y.member st) e refl
-  their-seals st (m ∷ ms) x (inr h) = their-seals st ms x h
-
-  sound-forms : (w : World) (t : Made) (ms : List ℕ) → Has w.txs t → votes_collected s w t ms ≡ whole → IsSound s w → IsSound s (with_formed s w t ms)
+  sound-forms : (w : World) (t : Made) (ms : List ℕ) → Has w.txs t → votes_collected s w t ms ≡ whole → IsSound s w → IsSound s (with_formed w t ms)
   sound-forms w t ms h e sound = record {
     made = sound.made;
+    told = sound.told;
     voted = λ f k x l. voted f x l (has-push w.certs _ f k);
     sealed = λ f k x l. sealed f x l (has-push w.certs _ f k);
-    backed = λ es k y l. backed-grown w (with_formed s w t ms) ((grown-keeps s w).forms w t ms h e (grown-same w)) y (sound.backed es k y l);
+    backed = λ es k y l. backed-grown w (with_formed w t ms) ((grown-keeps s w).forms w t ms h e (grown-same w)) y (sound.backed es k y l);
   }
     where
       new : Formed
-      new = record { name = t.name; cert = certificate_of s t (first_origins w t ms) ms }
+      new = record { name = t.name; cert = certificate_of w.said t (first_origins w t ms) ms }
 
-      by : (x : MemberSeal) → Has new.cert.seals x → Has w.said (said_by x.member (vote_of new.cert))
+      vote : Statement
+      vote = vote_statement t.signed.tx t.digest (first_origins w t ms)
+
+      -- what is collected is the seal with which the member stated its last vote
+      seal-is : (x : MemberSeal) → Has new.cert.seals x → x.seal ≡ member_seal s x.member vote
+      seal-is x l =
+          let is = has-collected w.said t ms x l in
+          ap (λ (y : MemberSeal). y.seal) is.1
+          ∙ ap (λ (o : Option (Option Digest)). digest_or_zero (option_and_then the_seal o))
+          (sealed-read s t.signed.tx.epoch t.digest x.member w.said sound.told
+          ∙ ap (λ (o : Option (List (Option Digest))). option_map (vote_seal s t.signed.tx.epoch t.digest x.member) o) (firsts s w t ms x.member e is.0))
+
+      stated-so : (x : MemberSeal) → Has new.cert.seals x → HasSaid w x.member vote → Has w.said (said_under x.seal x.member vote)
+      stated-so x l (seal, k) =
+          subst (λ (y : Said). Has w.said y) (sound.told (record { member = x.member; statement = vote; seal = seal }) k ∙ ap (λ (d : Digest). said_under d x.member vote) (sym (seal-is x l))) k
+
+      by : (x : MemberSeal) → Has new.cert.seals x → Has w.said (said_under x.seal x.member (vote_of new.cert))
       by x l =
-          subst (λ (d : Digest). Has w.said (said_by x.member (vote_statement t.signed.tx d (first_origins w t ms)))) (sound.made t h)
-          (collected-said s w t ms x.member e (has-sealed (vote_statement t.signed.tx t.digest (first_origins w t ms)) ms x l))
+          subst (λ (d : Digest). Has w.said (said_under x.seal x.member (vote_statement t.signed.tx d (first_origins w t ms)))) (sound.made t h)
+          (stated-so x l (collected-said s w t ms x.member e (has-collected w.said t ms x l).0))
 
-      voted : (f : Formed) (x : MemberSeal) → Has f.cert.seals x → Has w.certs f ⊎ (new ≡ f) → Has w.said (said_by x.member (vote_of f.cert))
+      voted : (f : Formed) (x : MemberSeal) → Has f.cert.seals x → Has w.certs f ⊎ (new ≡ f) → Has w.said (said_under x.seal x.member (vote_of f.cert))
       voted f x l (inl k) = sound.voted f k x l
-      voted f x l (inr q) = subst (λ (g : Formed). Has g.cert.seals x → Has w.said (said_by x.member (vote_of g.cert))) q (by x) l
+      voted f x l (inr q) = subst (λ (g : Formed). Has g.cert.seals x → Has w.said (said_under x.seal x.member (vote_of g.cert))) q (by x) l
 
       own : (x : MemberSeal) → Has new.cert.seals x → x.seal ≡ member_seal s x.member (vote_of new.cert)
-      own x l =
-          subst (λ (d : Digest). x.seal ≡ member_seal s x.member (vote_statement t.signed.tx d (first_origins w t ms))) (sound.made t h)
-          (their-seals (vote_statement t.signed.tx t.digest (first_origins w t ms)) ms x l)
+      own x l = subst (λ (d : Digest). x.seal ≡ member_seal s x.member (vote_statement t.signed.tx d (first_origins w t ms))) (sound.made t h) (seal-is x l)
 
       sealed : (f : Formed) (x : MemberSeal) → Has f.cert.seals x → Has w.certs f ⊎ (new ≡ f) → x.seal ≡ member_seal s x.member (vote_of f.cert)
       sealed f x l (inl k) = sound.sealed f k x l
@@ -302,7 +367,7 @@ module _ (s : Setting) where
   sound-keeps = record {
     calls = λ w m call _ sound. sound-called w m call sound;
     lies = λ w m st faulty of_made sound. sound-says w m st faulty of_made sound;
-    seats = λ w m seat new at same records sound. sound-as s w (with_seat w m new) (grown-seat w m seat new at same) refl refl refl sound;
+    seats = λ w m seat new at same records sound. sound-as s w (with_seat w m new) (grown-seat w m seat new at same) refl refl refl sound.told sound;
     enters = λ w e backed sound. sound-enters w e backed sound;
     rises = λ w sound. sound-rises w sound;
     makes = λ w l t digest sound. sound-makes w l t digest sound;

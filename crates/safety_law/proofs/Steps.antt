@@ -1,6 +1,6 @@
 -- A run as steps: a call of a member, a statement of a faulty one, a seat that is armed or started, an entry, the
 -- rise of the epoch, a transaction made, a certificate formed. What each step keeps, a run keeps.
-use Rattle.std.proofs.Common.{refl, subst, ap, inl, inr, ◌∙◌}
+use Rattle.std.proofs.Common.{refl, subst, inl, inr, ◌∙◌}
 use Rattle.std.proofs.lemmas.Bool.{eqb-true}
 use Rattle.std.specs.Prelude.{◌≡◌, ℕ, zero, suc, min, Bool, true, false, cond, ◌==◌, List, [], ◌∷◌, ◌++◌, slice_get, Option, Some, None, option_map, bytes_eq}
 use Rattle.chain_types.specs.Transactions as transactions
@@ -18,13 +18,14 @@ use Rattle.protocol_spec.specs.Chain.Collecting.{Collected, lacks, short, differ
 use Rattle.protocol_spec.specs.Chain.Words.{Has, Each, first_some, where_true, last_where}
 use Rattle.protocol_spec.specs.Member.Calls.{Call, votes, holds, runs, closes, ends, turns, acks}
 use Rattle.world_spec.specs.Setting.{Name, Setting}
-use Rattle.world_spec.specs.World.{Seat, Said, Made, Formed, World, said_by, with_seat, called_in, called_if, sees_on, is_honest, member_at, next_call, armed_seat, started_seat}
+use Rattle.world_spec.specs.World.{Seat, Said, Made, Formed, World, with_seat, called_in, called_if, sees_on, is_honest, member_at, next_call, armed_seat, started_seat}
 use Rattle.world_spec.specs.Names.{made_named, cert_named, cert_in}
 use Rattle.world_spec.specs.Making.{TxLine, made_over, made_as, transaction_of, with_made}
-use Rattle.world_spec.specs.Step.{happens, says, voted_on, fvoted, fvote_origins, formed, formed_as, first_origins, certificate_of, votes_collected, sent, ordered, honest_end, ordered_end, risen_if, has_ended, appended_entry, sealed_end, acked, false_ack, on_seat, entries_left, end_in, says_of, last_said, happens_over}
+use Rattle.world_spec.specs.Step.{happens, says, voted_on, fvoted, fvote_origins, formed, formed_as, first_origins, certificate_of, votes_collected, sent, ordered, honest_end, ordered_end, risen_if, has_ended, appended_entry, sealed_end, acked, false_ack, on_seat, entries_left, end_in, says_of, last_said, happens_over, of_statement, last_read}
 use Rattle.world_spec.specs.Run.{run}
-use Rattle.world_spec.specs.Assumptions.{vote_call, send_call, call_list, see_calls, ack_call, calls_of}
+use Rattle.world_spec.specs.Assumptions.{vote_call, send_call, call_list, see_calls, ack_call, calls_of, HasSaid}
 use Rattle.safety_law.specs.Owners.{callee}
+use Rattle.digest_core.specs.declared.Digest.{Digest}
 
 -- what was found last is an element
 pub last-has : {A : Type 0} (test : A → Bool) (xs : List A) (x : A) → last_where test xs ≡ Some x → Has xs x
@@ -39,30 +40,43 @@ last-has {A} test (y ∷ ys) x e = go (last_where test ys) refl (test y) e (last
     go None q true e rest = inl (same y e)
     go None q false e rest = absurd (cc)
 
+-- a statement of a member in which this is read, with the seal that was kept of it
+abbrev pub IsIn : {A : Type 0} → (Statement → Option A) → ℕ → List Said → A → Type 0
+IsIn reads m xs a = (st : Statement) × (seal : Option Digest) × Has xs (record { member = m; statement = st; seal = seal }) × (reads st ≡ Some a)
+
 -- what a member stated last it stated
-pub last-said : {A : Type 0} (reads : Statement → Option A) (m : ℕ) (xs : List Said) (a : A) → last_said reads m xs ≡ Some a → (st : Statement) × Has xs (said_by m st) × (reads st ≡ Some a)
-last-said reads m [] a e = absurd (cc)
-last-said {A} reads m (x ∷ xs) a e = go (last_said reads m xs) refl e (last-said reads m xs a)
+pub last-read : {A : Type 0} (reads : Said → Option A) (m : ℕ) (xs : List Said) (a : A) → last_read reads m xs ≡ Some a → (x : Said) × Has xs x × (x.member ≡ m) × (reads x ≡ Some a)
+last-read reads m [] a e = absurd (cc)
+last-read {A} reads m (x ∷ xs) a e = go (last_read reads m xs) refl e (last-read reads m xs a)
   where
+    IsThere : List Said → Type 0
+    IsThere ys = (y : Said) × Has ys y × (y.member ≡ m) × (reads y ≡ Some a)
+
     only : (o : Option A) → first_some (o ∷ []) ≡ Some a → o ≡ Some a
     only None e = e
     only (Some b) e = e
 
-    one : (b : Bool) → (x.member == m) ≡ b → first_some (cond b (reads x.statement) None ∷ []) ≡ Some a → (st : Statement) × Has (x ∷ xs) (said_by m st) × (reads st ≡ Some a)
-    one true t e = (x.statement, inl (ap (λ (n : ℕ). said_by n x.statement) (eqb-true x.member m t)), only (reads x.statement) e)
+    one : (b : Bool) → (x.member == m) ≡ b → first_some (cond b (reads x) None ∷ []) ≡ Some a → IsThere (x ∷ xs)
+    one true t e = (x, inl refl, eqb-true x.member m t, only (reads x) e)
     one false t e = absurd (cc)
 
-    longer : (st : Statement) × Has xs (said_by m st) × (reads st ≡ Some a) → (st : Statement) × Has (x ∷ xs) (said_by m st) × (reads st ≡ Some a)
-    longer (st, h, r) = (st, inr h, r)
+    longer : IsThere xs → IsThere (x ∷ xs)
+    longer (y, h, n, r) = (y, inr h, n, r)
 
-    go : (o : Option A) → last_said reads m xs ≡ o → first_some (o ∷ says_of reads m x ∷ []) ≡ Some a → (last_said reads m xs ≡ Some a → (st : Statement) × Has xs (said_by m st) × (reads st ≡ Some a)) → (st : Statement) × Has (x ∷ xs) (said_by m st) × (reads st ≡ Some a)
+    go : (o : Option A) → last_read reads m xs ≡ o → first_some (o ∷ says_of reads m x ∷ []) ≡ Some a → (last_read reads m xs ≡ Some a → IsThere xs) → IsThere (x ∷ xs)
     go (Some b) q e rest = longer (rest (q ∙ e))
     go None q e rest = one (x.member == m) refl e
+
+pub last-said : {A : Type 0} (reads : Statement → Option A) (m : ℕ) (xs : List Said) (a : A) → last_said reads m xs ≡ Some a → IsIn reads m xs a
+last-said reads m xs a e = go (last-read (of_statement reads) m xs a e)
+  where
+    go : (x : Said) × Has xs x × (x.member ≡ m) × (reads x.statement ≡ Some a) → IsIn reads m xs a
+    go (x, h, n, r) = (x.statement, x.seal, subst (λ (k : ℕ). Has xs (record { member = k; statement = x.statement; seal = x.seal })) n h, r)
 
 -- what stands after an entry: a certificate was formed, an End of an honest member was stated
 abbrev pub IsBacked : World → Entry → Type 0
 IsBacked w (entry.Cert c) = (f : Formed) × Has w.certs f × (f.cert ≡ c)
-IsBacked w (entry.End x) = is_honest w x.member ≡ true → Has w.said (said_by x.member x.statement)
+IsBacked w (entry.End x) = is_honest w x.member ≡ true → HasSaid w x.member x.statement
 IsBacked w entry.Commit = Unit {0}
 
 -- a vote is for a transaction that was made
@@ -72,8 +86,8 @@ IsOfMade w (statement.End epoch) = Unit {0}
 IsOfMade w (statement.Checkpoint epoch number digest) = Unit {0}
 IsOfMade w (statement.Ack epoch tx effects) = Unit {0}
 
-abbrev pub with_formed : Setting → World → Made → List ℕ → World
-with_formed s w t ms = record w { certs = w.certs ++ record { name = t.name; cert = certificate_of s t (first_origins w t ms) ms } ∷ [] }
+abbrev pub with_formed : World → Made → List ℕ → World
+with_formed w t ms = record w { certs = w.certs ++ record { name = t.name; cert = certificate_of w.said t (first_origins w t ms) ms } ∷ [] }
 
 -- a certificate that a line names was formed
 pub named-backed : (w : World) (name : Name) (x : Certificate) → cert_named w name ≡ Some x → IsBacked w (entry.Cert x)
@@ -89,12 +103,12 @@ named-backed w name x e = go (last_where (λ (f : Formed). bytes_eq f.name name)
 -- each step keeps Q; Given is what is known of the calls, with the member that each is made on
 pub record Keeps (s : Setting) (Given : Option ℕ → Call → Type 0) (Q : World → Type 0) : Type 0 where
   pub calls : (w : World) (m : ℕ) (call : Call) → Given (Some m) call → Q w → Q (called_in s w m call)
-  pub lies : (w : World) (m : ℕ) (st : Statement) → is_honest w m ≡ false → IsOfMade w st → Q w → Q (says w m st)
+  pub lies : (w : World) (m : ℕ) (st : Statement) → is_honest w m ≡ false → IsOfMade w st → Q w → Q (says s.seal w m st)
   pub seats : (w : World) (m : ℕ) (seat new : Seat) → slice_get w.seats m ≡ Some seat → new.honest ≡ seat.honest → new.records ≡ seat.records → Q w → Q (with_seat w m new)
   pub enters : (w : World) (e : Entry) → IsBacked w e → Q w → Q (appended_entry w e)
   pub rises : (w : World) → Q w → Q (risen_if true w)
   pub makes : (w : World) (l : TxLine) (t : Made) → t.digest ≡ transaction_digest t.signed.tx → Q w → Q (with_made w l t)
-  pub forms : (w : World) (t : Made) (ms : List ℕ) → Has w.txs t → votes_collected s w t ms ≡ whole → Q w → Q (with_formed s w t ms)
+  pub forms : (w : World) (t : Made) (ms : List ℕ) → Has w.txs t → votes_collected s w t ms ≡ whole → Q w → Q (with_formed w t ms)
 
 -- each call of the run is as given
 abbrev pub AllGiven : Setting → (Option ℕ → Call → Type 0) → List Event → World → Type 0
@@ -119,12 +133,12 @@ module _ (s : Setting) (Given : Option ℕ → Call → Type 0) (Q : World → T
   step-if true v w one other = one refl
   step-if false v w one other = other refl
 
-  step-fvoted : (w : World) (m : ℕ) (words : List (Option Name)) (t : Option Made) → ((x : Made) → t ≡ Some x → Has w.txs x) → Q w → Q (fvoted w m words t)
+  step-fvoted : (w : World) (m : ℕ) (words : List (Option Name)) (t : Option Made) → ((x : Made) → t ≡ Some x → Has w.txs x) → Q w → Q (fvoted s w m words t)
   step-fvoted w m words None has q = q
-  step-fvoted w m words (Some t) has q = step-if (is_honest w m) w (says w m (statement.Vote t.signed.tx.epoch t.digest (fvote_origins w t words))) (λ _. q)
+  step-fvoted w m words (Some t) has q = step-if (is_honest w m) w (says s.seal w m (statement.Vote t.signed.tx.epoch t.digest (fvote_origins w t words))) (λ _. q)
       (λ faulty. k.lies w m (statement.Vote t.signed.tx.epoch t.digest (fvote_origins w t words)) faulty (t, has t refl, refl, refl) q)
 
-  step-formed_as : (w : World) (t : Made) (ms : List ℕ) (c : Collected) → Has w.txs t → votes_collected s w t ms ≡ c → Q w → Q (formed_as s w t ms c)
+  step-formed_as : (w : World) (t : Made) (ms : List ℕ) (c : Collected) → Has w.txs t → votes_collected s w t ms ≡ c → Q w → Q (formed_as w t ms c)
   step-formed_as w t ms (lacks m) h e q = q
   step-formed_as w t ms (short weight total) h e q = q
   step-formed_as w t ms (differ a b) h e q = q
@@ -159,7 +173,7 @@ module _ (s : Setting) (Given : Option ℕ → Call → Type 0) (Q : World → T
 
   step-acked : (w : World) (m : ℕ) (spoiled : Bool) (t : Option Made) → Each (Given (Some m)) (ack_call t) → Q w → Q (acked s w m spoiled t)
   step-acked w m spoiled None g q = q
-  step-acked w m spoiled (Some t) g q = step-if (is_honest w m) (called_in s w m (acks t.digest)) (says w m (false_ack s w t spoiled)) (λ _. k.calls w m (acks t.digest) g.0 q) (λ faulty. k.lies w m (false_ack s w t spoiled) faulty tt q)
+  step-acked w m spoiled (Some t) g q = step-if (is_honest w m) (called_in s w m (acks t.digest)) (says s.seal w m (false_ack s w t spoiled)) (λ _. k.calls w m (acks t.digest) g.0 q) (λ faulty. k.lies w m (false_ack s w t spoiled) faulty tt q)
 
   -- ---- what the lines name is there
 
@@ -175,10 +189,10 @@ module _ (s : Setting) (Given : Option ℕ → Call → Type 0) (Q : World → T
   stated-end : (w : World) (m epoch : ℕ) → last_said end_in m w.said ≡ Some epoch → IsBacked w (sealed_end s m epoch)
   stated-end w m epoch e _ = go (last-said end_in m w.said epoch e)
     where
-      go : (st : Statement) × Has w.said (said_by m st) × (end_in st ≡ Some epoch) → Has w.said (said_by m (statement.End epoch))
-      go (st, h, r) = subst (λ (x : Statement). Has w.said (said_by m x)) (is-end st epoch r) h
+      go : IsIn end_in m w.said epoch → HasSaid w m (statement.End epoch)
+      go (st, seal, h, r) = subst (HasSaid w m) (is-end st epoch r) (seal, h)
 
-  lied-end : (w : World) (m : ℕ) → is_honest w m ≡ false → IsBacked (says w m (statement.End w.epoch)) (sealed_end s m w.epoch)
+  lied-end : (w : World) (m : ℕ) → is_honest w m ≡ false → IsBacked (says s.seal w m (statement.End w.epoch)) (sealed_end s m w.epoch)
   lied-end w m faulty honest = absurd (cc)
 
   pub step-line : (w : World) (e : Event) → Each (Given (callee e)) (calls_of s w e) → Q w → Q (happens s w e)
@@ -192,9 +206,9 @@ module _ (s : Setting) (Given : Option ℕ → Call → Type 0) (Q : World → T
   step-line w (event.Send m tx) g q = step-sent w m (cert_named w tx) g q
   step-line w (event.Order tx) g q = step-ordered w (cert_named w tx) (named-backed w tx) q
   step-line w (event.OrderEnd m) g q =
-      step-if (is_honest w m) (honest_end s w m (last_said end_in m w.said)) (ordered_end s (says w m (statement.End w.epoch)) m w.epoch)
+      step-if (is_honest w m) (honest_end s w m (last_said end_in m w.said)) (ordered_end s (says s.seal w m (statement.End w.epoch)) m w.epoch)
       (λ _. step-honest_end w m (last_said end_in m w.said) (stated-end w m) q)
-      (λ faulty. step-end (says w m (statement.End w.epoch)) m w.epoch (lied-end w m faulty) (k.lies w m (statement.End w.epoch) faulty tt q))
+      (λ faulty. step-end (says s.seal w m (statement.End w.epoch)) m w.epoch (lied-end w m faulty) (k.lies w m (statement.End w.epoch) faulty tt q))
   step-line w event.OrderCommit g q = k.enters w entry.Commit tt q
   step-line w (event.See m entries) g q = step-sees (min entries (entries_left w (member_at s w m))) w m g q
   step-line w (event.Run m workers) g q = k.calls w m runs g.0 q

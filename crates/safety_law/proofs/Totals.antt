@@ -84,7 +84,7 @@ module _ (s : Setting) where
 
   pub sound-new : IsSound s (new_world s)
   unfolding new_world
-  sound-new = record { made = λ t h. absurd h; voted = λ f h. absurd h; sealed = λ f h. absurd h; backed = none }
+  sound-new = record { made = λ t h. absurd h; told = λ x h. absurd h; voted = λ f h. absurd h; sealed = λ f h. absurd h; backed = none }
     where
       none : (es : List Entry) → Has ([] ∷ []) es → (e : Entry) → Has es e → IsBacked (new_world s) e
       none es (inl q) e k = absurd (subst (λ (ys : List Entry). Has ys e) (sym q) k)

@@ -104,7 +104,7 @@ module _ (s : Setting) (all : List Event) (spellable : AreSpellable s all) (w : 
   formed-among f h = has_map (λ (g : Formed). g.cert) (world_after s all).certs f (grown.certs f h)
 
   backed-unforged : (c : Certificate) → IsBacked w (entry.Cert c) → IsUnforged s w c
-  backed-unforged c (f, h, q) = subst (IsUnforged s w) q (each-all (λ (x : MemberSeal). IsStated s w x.member (vote_of f.cert) x.seal) f.cert.seals (λ x k honest accepted. sound.voted f h x k))
+  backed-unforged c (f, h, q) = subst (IsUnforged s w) q (each-all (λ (x : MemberSeal). IsStated s w x.member (vote_of f.cert) x.seal) f.cert.seals (λ x k honest accepted. (Some x.seal, sound.voted f h x k)))
 
   abbrev pub IsHonestCall : Call → Type 0
   IsHonestCall call = Each (IsUnforged s w) (certificates_read s.rules call) × Each (IsUnforgedEnd s w) (ends_read s.rules call)

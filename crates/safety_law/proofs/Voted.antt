@@ -15,14 +15,14 @@ use Rattle.protocol_spec.specs.Chain.Words.{Has, Each}
 use Rattle.protocol_spec.specs.Chain.Committee.{weight, total_of, is_quorum}
 use Rattle.protocol_spec.specs.Chain.Certificates.{Rules, accepts_statement, vote_of, members_of, bad_seal, cert_cases, cert_refusal}
 use Rattle.world_spec.specs.Setting.{Setting, member_seal}
-use Rattle.world_spec.specs.World.{Seat, Formed, World, new_world, said_by, honest_seat, is_honest}
+use Rattle.world_spec.specs.World.{Seat, Formed, World, new_world, said_under, honest_seat, is_honest}
 use Rattle.world_spec.specs.Step.{happens}
 use Rattle.world_spec.specs.Run.{run, world_after}
 use Rattle.world_spec.specs.Assumptions.{delivered, all_of, all_formed, all_delivered, all_transactions, IsCertified, IsUnforged, NoForgery, IsHonestRun, IsStated}
 use Rattle.safety_law.proofs.Apart.{none-each, none-of}
 use Rattle.safety_law.proofs.Kept.{IsKept, every-vote}
 use Rattle.safety_law.specs.Owners.{IsFormedOrValid, HasStated, IsCollected, HasKept, all_handed}
-use Rattle.safety_law.proofs.Grown.{IsGrown, grown-run}
+use Rattle.safety_law.proofs.Grown.{IsGrown, grown-run, said-on}
 use Rattle.safety_law.proofs.Totals.{each-all, sound-after, given-among, certificate-among, handed-among}
 use Rattle.safety_law.proofs.Quorate.{quorate-after}
 use Rattle.safety_law.proofs.Handed.{WasHanded, voted-handed}
@@ -43,14 +43,17 @@ formed-of : (s : Setting) (events : List Event) (c : Certificate) → Has (all_f
 unfolding all_formed
 formed-of s events c h = has_mapped (λ (f : Formed). f.cert) (world_after s events).certs c h
 
--- its member stated the vote
-pub formed-stated : (s : Setting) (events : List Event) (c : Certificate) → Has (all_formed s events) c → (x : MemberSeal) → Has c.seals x → HasStated (world_after s events) c x.member
-formed-stated s events c h x k = go (formed-of s events c h)
+-- its member stated the vote under this seal
+formed-collected : (s : Setting) (events : List Event) (c : Certificate) → Has (all_formed s events) c → (x : MemberSeal) → Has c.seals x → Has (world_after s events).said (said_under x.seal x.member (vote_of c))
+formed-collected s events c h x k = go (formed-of s events c h)
   where
-    go : (f : Formed) × Has (world_after s events).certs f × (f.cert ≡ c) → HasStated (world_after s events) c x.member
+    go : (f : Formed) × Has (world_after s events).certs f × (f.cert ≡ c) → Has (world_after s events).said (said_under x.seal x.member (vote_of c))
     go (f, l, q) =
-        subst (λ (d : Certificate). HasStated (world_after s events) d x.member) q
+        subst (λ (d : Certificate). Has (world_after s events).said (said_under x.seal x.member (vote_of d))) q
         ((sound-after s events).voted f l x (subst (λ (d : Certificate). Has d.seals x) (sym q) k))
+
+pub formed-stated : (s : Setting) (events : List Event) (c : Certificate) → Has (all_formed s events) c → (x : MemberSeal) → Has c.seals x → HasStated (world_after s events) c x.member
+formed-stated s events c h x k = (Some x.seal, formed-collected s events c h x k)
 
 -- and the seal is its own on it
 formed-sealed : (s : Setting) (events : List Event) (c : Certificate) → Has (all_formed s events) c → (x : MemberSeal) → Has c.seals x → x.seal ≡ member_seal s x.member (vote_of c)
@@ -62,7 +65,7 @@ formed-sealed s events c h x k = go (formed-of s events c h)
         ((sound-after s events).sealed f l x (subst (λ (d : Certificate). Has d.seals x) (sym q) k))
 
 pub each-formed : (s : Setting) (events : List Event) (c : Certificate) → Has (all_formed s events) c → Each (IsCollected s (world_after s events) c) c.seals
-each-formed s events c h = each-all (IsCollected s (world_after s events) c) c.seals (λ x k. (formed-stated s events c h x k, formed-sealed s events c h x k))
+each-formed s events c h = each-all (IsCollected s (world_after s events) c) c.seals (λ x k. (formed-collected s events c h x k, formed-sealed s events c h x k))
 
 -- ---- delivered certificates
 
@@ -81,7 +84,7 @@ unfolding all_delivered world_after
 delivered-stated s events none c h valid x k honest = go (unforged-at s c events (new_world s) none h)
   where
     go : (v : World) × IsUnforged s v c × IsGrown v (run s events (new_world s)) → HasStated (run s events (new_world s)) c x.member
-    go (v, each, grown) = grown.said (said_by x.member (vote_of c)) (each_has (λ (y : MemberSeal). IsStated s v y.member (vote_of c) y.seal) c.seals x each k (sym (grown.honest x.member) ∙ honest) (valid-sealed s.rules c valid x k))
+    go (v, each, grown) = said-on v (run s events (new_world s)) grown x.member (vote_of c) (each_has (λ (y : MemberSeal). IsStated s v y.member (vote_of c) y.seal) c.seals x each k (sym (grown.honest x.member) ∙ honest) (valid-sealed s.rules c valid x k))
 
 -- ---- certified transactions
 

@@ -12,9 +12,10 @@ use Rattle.protocol_spec.specs.Chain.Words.{Has, Each, Along}
 use Rattle.protocol_spec.specs.Chain.Tests.{has_key}
 use Rattle.protocol_spec.specs.Member.Votes.{Cast}
 use Rattle.world_spec.specs.Setting.{Setting}
-use Rattle.world_spec.specs.World.{Seat, member_in, said_by}
+use Rattle.world_spec.specs.World.{Seat, member_in}
 use Rattle.world_spec.specs.Run.{world_after}
 use Rattle.protocol_spec.specs.Member.Due.{IsDueBehind}
+use Rattle.world_spec.specs.Assumptions.{HasSaid}
 
 abbrev pub EveryRecordIsDue : Type 0
 EveryRecordIsDue = (s : Setting) (events : List Event) (m : ℕ) (seat : Seat) → slice_get (world_after s events).seats m ≡ Some seat
@@ -48,5 +49,5 @@ VotesNameOneOrigins = (s : Setting) (events : List Event) (m : ℕ) (seat : Seat
 -- a vote that an honest member stated stands in its journal, with that transaction, epoch and origins
 abbrev pub EveryVoteIsKept : Type 0
 EveryVoteIsKept = (s : Setting) (events : List Event) (m : ℕ) (seat : Seat) → slice_get (world_after s events).seats m ≡ Some seat → seat.honest ≡ true
-    → (epoch : ℕ) (tx : Digest) (origins : List (Option Digest)) → Has (world_after s events).said (said_by m (statement.Vote epoch tx origins))
+    → (epoch : ℕ) (tx : Digest) (origins : List (Option Digest)) → HasSaid (world_after s events) m (statement.Vote epoch tx origins)
     → (t : Transaction) × Has seat.records (record_as.Vote t origins) × (t.epoch ≡ epoch) × (transaction_digest t ≡ tx)

@@ -15,9 +15,9 @@ use Rattle.protocol_spec.specs.Chain.Certificates.{accepts_sender, vote_of, cert
 use Rattle.protocol_spec.specs.Member.Member.{fork_of}
 use Rattle.protocol_spec.specs.Member.Calls.{Call, called}
 use Rattle.world_spec.specs.Setting.{Setting, member_seal}
-use Rattle.world_spec.specs.World.{Seat, Said, World, new_world, said_by, member_in, is_honest, entries_at}
+use Rattle.world_spec.specs.World.{Seat, Said, World, new_world, said_under, member_in, is_honest, entries_at}
 use Rattle.world_spec.specs.Run.{world_after}
-use Rattle.world_spec.specs.Assumptions.{calls_of, asked, all_of, all_formed, all_delivered, IsCertified, NoForgery, IsHonestRun}
+use Rattle.world_spec.specs.Assumptions.{calls_of, asked, all_of, all_formed, all_delivered, HasSaid, IsCertified, NoForgery, IsHonestRun}
 
 -- ---- statements
 
@@ -27,13 +27,13 @@ StatementsOnlyGrow = (s : Setting) (front back : List Event) (x : Said) → Has 
 
 -- the member stated the vote that the certificate's seals are over
 abbrev pub HasStated : World → Certificate → ℕ → Type 0
-HasStated w c m = Has w.said (said_by m (vote_of c))
+HasStated w c m = HasSaid w m (vote_of c)
 
--- a seal that is its member's own, on a vote that it stated
+-- the seal with which its member stated the vote, which is the member's own
 abbrev pub IsCollected : Setting → World → Certificate → MemberSeal → Type 0
-IsCollected s w c x = HasStated w c x.member × (x.seal ≡ member_seal s x.member (vote_of c))
+IsCollected s w c x = Has w.said (said_under x.seal x.member (vote_of c)) × (x.seal ≡ member_seal s x.member (vote_of c))
 
--- each member whose seal stands in a certificate that a line formed stated that vote, and the seal is its own on it
+-- each member whose seal stands in a certificate that a line formed stated that vote under this seal, which is its own
 abbrev pub FormedIsVotedFor : Type 0
 FormedIsVotedFor = (s : Setting) (events : List Event) (c : Certificate) → Has (all_formed s events) c → Each (IsCollected s (world_after s events) c) c.seals
 

@@ -7,7 +7,7 @@ pub fn statements_only_grow()
     ensures { StatementsOnlyGrow }
 {}
 
-/// Each member whose seal stands in a certificate that a line formed stated that vote, and the seal is its own on it.
+/// Each member whose seal stands in a certificate that a line formed stated that vote under this seal, which is its own.
 pub fn formed_is_voted_for()
     ensures { FormedIsVotedFor }
 {}

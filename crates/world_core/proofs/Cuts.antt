@@ -1,5 +1,7 @@
 -- What stands after a line that did not come to its end, in each of its ways.
 use Rattle.std.proofs.Common.{◌≡◌, ◌⊎◌, inl, inr, ◌∙◌, ap, sym, refl, subst, ℕ, true, false, List, length, Option, Some, None, option_map, Result, Ok, Err, OnErr, arith}
+use Rattle.digest_core.specs.declared.Digest.{Digest}
+use Rattle.quorum_core.specs.declared.signer.Signer.{Signer}
 use Rattle.outside.specs.Lists.{Journals, KeepsJournals}
 use Rattle.chain_messages.specs.declared.messages.Certificate.{Certificate}
 use Rattle.protocol_spec.specs.Chain.Certificates.{Rules}
@@ -9,7 +11,7 @@ use Rattle.world_spec.specs.World.{Made, Said}
 use Rattle.world_spec.specs.Terms.{Terms}
 use Rattle.world_spec.specs.Posts.{AddsAll, AddsLeft, MayAddLeft, Post, posts_behind, reached_in, record_left}
 use Rattle.world_spec.specs.Scene.{Scene, rules_in}
-use Rattle.world_spec.specs.SceneSteps.{Work, asked, asks, called_scene, hands, held_call, idle, next_on, sees_left, sees_to, signed_call}
+use Rattle.world_spec.specs.SceneSteps.{Work, asked, asks, called_scene, hands, held_call, idle, next_on, sees_left, sees_to, signed_call, voted_scene}
 use Rattle.world_core.specs.Crews.{fallen_at}
 use Rattle.world_core.specs.Cuts.{Books, CallCut, EntriesCut, SeenCut, LineCut, NextCut, Still, books_in, ended, fell, still_in, unmade}
 use Rattle.schedule_text.specs.declared.words.Event.{Event}
@@ -113,9 +115,9 @@ pub vote_line : (r : Rules) (sc : Scene) (new : List Post) (m : ℕ) (t : Option
 vote_line r sc new m None bytes before now e is = absurd (cc)
 vote_line r sc new m (Some t) bytes before now e is = subst (λ (b : List ℕ). CallCut r m (votes b) sc.posts new before now) (cc) is
 
-pub vote_line_on : {A E : Type 0} (r : Rules) (sc new : Scene) (m : ℕ) (t : Option Made) (bytes : List ℕ) (before now : Option Journals) (result : Result A E) → Some bytes ≡ option_map spelled_tx t → new ≡ called_scene r sc m (votes bytes)
+pub vote_line_on : {A E : Type 0} (seal : Signer → List ℕ → Digest) (r : Rules) (sc new : Scene) (m : ℕ) (t : Option Made) (bytes : List ℕ) (before now : Option Journals) (result : Result A E) → Some bytes ≡ option_map spelled_tx t → new ≡ voted_scene seal r sc m bytes
     → AddsLeft before now m (record_left (reached_in r sc.posts m (votes bytes))) → OnErr result (LineCut r sc (asked m (option_map signed_call t)) new.posts before now)
-vote_line_on r sc new m t bytes before now result e is adds =
+vote_line_on seal r sc new m t bytes before now result e is adds =
     on_err (LineCut r sc (asked m (option_map signed_call t)) new.posts before now) result
     (vote_line r sc new.posts m t bytes before now e (call_ended r m (votes bytes) sc.posts new.posts before now (ap (λ (x : Scene). x.posts) is) adds))
 

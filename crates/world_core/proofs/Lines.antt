@@ -1,6 +1,8 @@
 -- A line that names a transaction or a certificate, by what is encoded.
 use Rattle.std.proofs.Common.{◌≡◌, ◌∙◌, ap, refl, sym, subst, ℕ, List, [], ◌∷◌, Option, Some, None, Result, Ok, Err, option_map, append-nil, inl, inr}
 use Rattle.outside.specs.Lists.{Journals}
+use Rattle.digest_core.specs.declared.Digest.{Digest}
+use Rattle.quorum_core.specs.declared.signer.Signer.{Signer}
 use Rattle.chain_messages.specs.declared.messages.Certificate.{Certificate}
 use Rattle.protocol_spec.specs.Chain.Certificates.{Rules}
 use Rattle.protocol_spec.specs.Member.Calls.{Call, holds, votes}
@@ -15,7 +17,7 @@ use Rattle.world_spec.specs.World.{Made}
 use Rattle.journal_core.specs.declared.records.Record.{Record}
 use Rattle.world_spec.specs.Posts.{AddsAll, AddsFront, AddsLeft, MayAddLeft, list_of, reached_in, record_left}
 use Rattle.world_spec.specs.Scene.{Scene}
-use Rattle.world_spec.specs.SceneSteps.{MayAddLine, asked, asks, called_scene, held_call, hold_text_in, records_left, send_text_in, signed_call, vote_lines_in, vote_text_in, worked}
+use Rattle.world_spec.specs.SceneSteps.{MayAddLine, asked, asks, called_scene, held_call, hold_text_in, records_left, send_text_in, signed_call, vote_lines_in, vote_text_in, voted_in, voted_scene, worked}
 use Rattle.world_core.specs.Replies.{Leaves}
 use Rattle.world_core.specs.Kept.{LeavesAs}
 use Rattle.world_core.specs.Texts.{spelled_cert, spelled_tx}
@@ -37,9 +39,9 @@ adds_front (Some lists) now m x (inr keeps) = record { front = []; rest = list_o
 
 -- ---- vote
 
-pub vote_none_world : (r : Rules) (sc : Scene) (m : ℕ) (t : Option Made) → None ≡ option_map spelled_tx t → sc ≡ worked r sc (asked m (option_map signed_call t))
-vote_none_world r sc m None e = refl
-vote_none_world r sc m (Some t) e = absurd (cc)
+pub vote_none_world : (seal : Signer → List ℕ → Digest) (r : Rules) (sc : Scene) (m : ℕ) (t : Option Made) → None ≡ option_map spelled_tx t → sc ≡ voted_in seal r sc m t
+vote_none_world seal r sc m None e = refl
+vote_none_world seal r sc m (Some t) e = absurd (cc)
 
 pub vote_none_lines : (trust : Trust) (sc : Scene) (m : ℕ) (name : Name) (t : Option Made) (lines : List Line) → None ≡ option_map spelled_tx t → lines ≡ line.Vote m name vote_text.Down ∷ [] → lines ≡ vote_lines_in trust sc m name t
 vote_none_lines trust sc m name None lines e l = l
@@ -50,9 +52,9 @@ vote_none_kept r sc m None told (Ok a) e = keeps_same told
 vote_none_kept r sc m None told (Err x) e = keeps_same told
 vote_none_kept r sc m (Some t) told result e = absurd (cc)
 
-pub vote_some_world : (r : Rules) (sc new : Scene) (m : ℕ) (t : Option Made) (bytes : List ℕ) → Some bytes ≡ option_map spelled_tx t → new ≡ called_scene r sc m (votes bytes) → new ≡ worked r sc (asked m (option_map signed_call t))
-vote_some_world r sc new m None bytes e n = absurd (cc)
-vote_some_world r sc new m (Some t) bytes e n = n ∙ ap (λ b. called_scene r sc m (votes b)) (cc)
+pub vote_some_world : (seal : Signer → List ℕ → Digest) (r : Rules) (sc new : Scene) (m : ℕ) (t : Option Made) (bytes : List ℕ) → Some bytes ≡ option_map spelled_tx t → new ≡ voted_scene seal r sc m bytes → new ≡ voted_in seal r sc m t
+vote_some_world seal r sc new m None bytes e n = absurd (cc)
+vote_some_world seal r sc new m (Some t) bytes e n = n ∙ ap (λ b. voted_scene seal r sc m b) (cc)
 
 pub vote_some_lines : (trust : Trust) (sc : Scene) (m : ℕ) (name : Name) (t : Option Made) (bytes : List ℕ) (lines : List Line) (text : VoteText) → Some bytes ≡ option_map spelled_tx t → text ≡ vote_text_in trust sc m bytes → lines ≡ line.Vote m name text ∷ [] → lines ≡ vote_lines_in trust sc m name t
 vote_some_lines trust sc m name None bytes lines text e x l = absurd (cc)

@@ -23,7 +23,7 @@ use Rattle.world_core.proofs.Voting.{honest_same}
 
 module _ (trust : Trust) (v sc : Scene) (m : ℕ) (view : v ≡ sc) where
   abbrev ordered_by : Bool → Option ℕ → Scene → World
-  ordered_by honest said x = cond honest (honest_end (bare_setting trust x) (bare_world x) m said) (ordered_end (bare_setting trust x) (says (bare_world x) m (statement.End x.epoch)) m x.epoch)
+  ordered_by honest said x = cond honest (honest_end (bare_setting trust x) (bare_world x) m said) (ordered_end (bare_setting trust x) (says trust.seal (bare_world x) m (statement.End x.epoch)) m x.epoch)
 
   abbrev said_by : Bool → Option ℕ → Scene → OrderEndText
   said_by honest said x = cond honest (honest_end_said (bare_world x) said) (order_end_text.Entry (length (open_entries (bare_world x))))
@@ -42,7 +42,7 @@ module _ (trust : Trust) (v sc : Scene) (m : ℕ) (view : v ≡ sc) where
 
   -- a faulty member's
   pub faulty_end : (honest : Bool) (flags : List Bool) → honest ≡ flag_at (slice_get flags m) → flags ≡ honest_flags v.posts → honest ≡ false
-      → with_order sc (ordered_end (bare_setting trust sc) (says (bare_world sc) m (statement.End sc.epoch)) m sc.epoch) ≡ with_order sc (end_ordered (bare_setting trust sc) (bare_world sc) m)
+      → with_order sc (ordered_end (bare_setting trust sc) (says trust.seal (bare_world sc) m (statement.End sc.epoch)) m sc.epoch) ≡ with_order sc (end_ordered (bare_setting trust sc) (bare_world sc) m)
   faulty_end honest flags flag are is = as_ordered false (last_said end_in m v.said) flags (sym is ∙ flag) are refl
 
   pub faulty_said : (honest : Bool) (flags : List Bool) → honest ≡ flag_at (slice_get flags m) → flags ≡ honest_flags v.posts → honest ≡ false

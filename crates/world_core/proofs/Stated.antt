@@ -1,6 +1,9 @@
 -- What was stated after a line that broke off: each line only adds to it, and then some of that was added, in order.
 use Rattle.std.proofs.Common.{◌≡◌, ◌<◌, ◌∙◌, ap, sym, refl, subst, arith, ℕ, zero, suc, Bool, true, false, cond, List, [], ◌∷◌, ◌++◌, map, Option, Some, None, Result, Ok, Err, OnErr}
 use Rattle.std.specs.Prelude.{◌==◌}
+use Rattle.digest_core.specs.declared.Digest.{Digest}
+use Rattle.quorum_core.specs.declared.signer.Signer.{Signer}
+use Rattle.chain_types.specs.Transactions as transactions
 use Rattle.chain_messages.specs.declared.messages.Certificate.{Certificate}
 use Rattle.chain_messages.specs.declared.messages.Entry.TheVariants as entry
 use Rattle.chain_messages.specs.declared.messages.Statement.TheVariants as statement
@@ -13,13 +16,13 @@ use Rattle.report_text.specs.declared.lines.Line.{Line}
 use Rattle.schedule_text.specs.declared.words.Event.{Event}
 use Rattle.schedule_text.specs.declared.words.Event.TheVariants as event
 use Rattle.world_spec.specs.Setting.{Name, Setting, Trust}
-use Rattle.world_spec.specs.World.{Made, Said, World, honest_in, is_honest, said_by, seat_honest}
+use Rattle.world_spec.specs.World.{Made, Said, World, honest_in, is_honest, said_by, sealed_by, seat_honest}
 use Rattle.world_spec.specs.Names.{cert_named, made_named}
 use Rattle.world_spec.specs.Step.{appended_entry, end_in, end_ordered, fvote_origins, fvoted, has_ended, honest_end, last_said, ordered, ordered_end, risen_if, says, sealed_end}
 use Rattle.world_spec.specs.Terms.{Terms, rules_for}
 use Rattle.world_spec.specs.Posts.{reached_in, stated_in}
 use Rattle.world_spec.specs.Scene.{Scene, bare_setting, bare_world, rules_in}
-use Rattle.world_spec.specs.SceneSteps.{Work, acked_in, asks, called_if, called_scene, false_ack_in, hands, idle, next_on, sees_to, steps_to, with_order, work_of, worked}
+use Rattle.world_spec.specs.SceneSteps.{Work, acked_in, asks, called_if, called_scene, false_ack_in, hands, idle, next_on, sees_to, steps_to, voted_in, voted_scene, with_order, work_of, worked}
 use Rattle.world_lines.specs.Pushed.{GrowsToward}
 use Rattle.world_lines.proofs.Growing.{all_added}
 use Rattle.world_core.specs.Sees.{HasSeen}
@@ -43,6 +46,13 @@ all_grew old new whole front e = subst (λ (l : List _). GrowsToward old l whole
 call_front : (r : Rules) (sc : Scene) (m : ℕ) (call : Call) → IsFront sc.said (called_scene r sc m call).said
 call_front r sc m call = (map (said_by m) (stated_in r call (reached_in r sc.posts m call)), refl)
 
+vote_front : (seal : Signer → List ℕ → Digest) (r : Rules) (sc : Scene) (m : ℕ) (bytes : List ℕ) → IsFront sc.said (voted_scene seal r sc m bytes).said
+vote_front seal r sc m bytes = (map (sealed_by seal m) (stated_in r (votes bytes) (reached_in r sc.posts m (votes bytes))), refl)
+
+voted_front : (seal : Signer → List ℕ → Digest) (r : Rules) (sc : Scene) (m : ℕ) (t : Option Made) → IsFront sc.said (voted_in seal r sc m t).said
+voted_front seal r sc m None = front_whole sc.said
+voted_front seal r sc m (Some t) = vote_front seal r sc m (transactions.signed.spell t.signed)
+
 next_front : (r : Rules) (sc : Scene) (m : ℕ) (call : Option Call) → IsFront sc.said (called_if r sc m call).said
 next_front r sc m None = front_whole sc.said
 next_front r sc m (Some call) = call_front r sc m call
@@ -59,13 +69,13 @@ work_front r sc (hands m n) = sees_front r n sc m
 
 -- ---- what lines add that make no call
 
-false_vote_front : (w : World) (m : ℕ) (words : List (Option Name)) (t : Option Made) → IsFront w.said (fvoted w m words t).said
-false_vote_front w m words None = front_whole w.said
-false_vote_front w m words (Some t) = go (honest_in seat_honest w m)
+false_vote_front : (s : Setting) (w : World) (m : ℕ) (words : List (Option Name)) (t : Option Made) → IsFront w.said (fvoted s w m words t).said
+false_vote_front s w m words None = front_whole w.said
+false_vote_front s w m words (Some t) = go (honest_in seat_honest w m)
   where
-    go : (b : Bool) → IsFront w.said (cond b w (says w m (statement.Vote t.signed.tx.epoch t.digest (fvote_origins w t words)))).said
+    go : (b : Bool) → IsFront w.said (cond b w (says s.seal w m (statement.Vote t.signed.tx.epoch t.digest (fvote_origins w t words)))).said
     go true = front_whole w.said
-    go false = (said_by m (statement.Vote t.signed.tx.epoch t.digest (fvote_origins w t words)) ∷ [], refl)
+    go false = (sealed_by s.seal m (statement.Vote t.signed.tx.epoch t.digest (fvote_origins w t words)) ∷ [], refl)
 
 order_front : (w : World) (c : Option Certificate) → IsFront w.said (ordered w c).said
 order_front w None = front_whole w.said
@@ -93,9 +103,9 @@ end_front s w m = go (honest_in seat_honest w m)
     of_last None = front_whole w.said
     of_last (Some epoch) = own epoch (epoch == w.epoch)
 
-    go : (b : Bool) → IsFront w.said (cond b (honest_end s w m (last_said end_in m w.said)) (ordered_end s (says w m (statement.End w.epoch)) m w.epoch)).said
+    go : (b : Bool) → IsFront w.said (cond b (honest_end s w m (last_said end_in m w.said)) (ordered_end s (says s.seal w m (statement.End w.epoch)) m w.epoch)).said
     go true = of_last (last_said end_in m w.said)
-    go false = (said_by m (statement.End w.epoch) ∷ [], end_said s (says w m (statement.End w.epoch)) m w.epoch)
+    go false = (said_by m (statement.End w.epoch) ∷ [], end_said s (says s.seal w m (statement.End w.epoch)) m w.epoch)
 
 ack_front : (r : Rules) (sc : Scene) (m : ℕ) (spoiled : Bool) (t : Option Made) → IsFront sc.said (acked_in r sc m spoiled t).said
 ack_front r sc m spoiled None = front_whole sc.said
@@ -110,8 +120,8 @@ ack_front r sc m spoiled (Some t) = go (is_honest (bare_world sc) m)
 pub step_front : (trust : Trust) (sc : Scene) (e : Event) → IsFront sc.said (steps_to trust sc e).said
 unfolding steps_to
 step_front trust sc (event.Tx name sender spoiled epoch gas budget inputs commands) = front_whole sc.said
-step_front trust sc (event.Vote m tx) = work_front (rules_in trust.accepts sc) sc (work_of sc (event.Vote m tx))
-step_front trust sc (event.Fvote m tx origins) = false_vote_front (bare_world sc) m origins (made_named (bare_world sc) tx)
+step_front trust sc (event.Vote m tx) = voted_front trust.seal (rules_in trust.accepts sc) sc m (made_named (bare_world sc) tx)
+step_front trust sc (event.Fvote m tx origins) = false_vote_front (bare_setting trust sc) (bare_world sc) m origins (made_named (bare_world sc) tx)
 step_front trust sc (event.Cert tx members) = front_whole sc.said
 step_front trust sc (event.Send m tx) = work_front (rules_in trust.accepts sc) sc (work_of sc (event.Send m tx))
 step_front trust sc (event.Order tx) = order_front (bare_world sc) (cert_named (bare_world sc) tx)
@@ -125,7 +135,7 @@ step_front trust sc (event.Turn m) = call_front (rules_in trust.accepts sc) sc m
 step_front trust sc (event.Show m) = front_whole sc.said
 step_front trust sc (event.Stop m kept) = front_whole sc.said
 step_front trust sc (event.Restart m) = front_whole sc.said
-step_front trust sc (event.RawVote m bytes) = call_front (rules_in trust.accepts sc) sc m (votes bytes)
+step_front trust sc (event.RawVote m bytes) = vote_front trust.seal (rules_in trust.accepts sc) sc m bytes
 step_front trust sc (event.RawHold m bytes) = call_front (rules_in trust.accepts sc) sc m (holds bytes)
 step_front trust sc (event.Ack m tx spoiled) = ack_front (rules_in trust.accepts sc) sc m spoiled (made_named (bare_world sc) tx)
 step_front trust sc (event.Final tx members) = front_whole sc.said
@@ -207,10 +217,10 @@ seen_grown trust m n old now before told lines so_far (suc still) said some has 
 -- ---- a line that orders the End of a faulty member
 
 pub false_end_grown : {A E : Type 0} (trust : Trust) (sc : Scene) (m : ℕ) (said : List Said) (result : Result A E)
-    → with_order sc (ordered_end (bare_setting trust sc) (says (bare_world sc) m (statement.End sc.epoch)) m sc.epoch) ≡ with_order sc (end_ordered (bare_setting trust sc) (bare_world sc) m)
+    → with_order sc (ordered_end (bare_setting trust sc) (says trust.seal (bare_world sc) m (statement.End sc.epoch)) m sc.epoch) ≡ with_order sc (end_ordered (bare_setting trust sc) (bare_world sc) m)
     → OnErr result (GrowsToward sc.said said (sc.said ++ said_by m (statement.End sc.epoch) ∷ [])) → OnErr result (GrowsToward sc.said said (steps_to trust sc (event.OrderEnd m)).said)
 unfolding steps_to
 false_end_grown trust sc m said (Ok a) same grew = tt
 false_end_grown trust sc m said (Err x) same grew =
     grew_as sc.said said (sc.said ++ said_by m (statement.End sc.epoch) ∷ []) (with_order sc (end_ordered (bare_setting trust sc) (bare_world sc) m)).said
-    (sym (end_said (bare_setting trust sc) (says (bare_world sc) m (statement.End sc.epoch)) m sc.epoch) ∙ ap (λ (y : Scene). y.said) same) grew
+    (sym (end_said (bare_setting trust sc) (says trust.seal (bare_world sc) m (statement.End sc.epoch)) m sc.epoch) ∙ ap (λ (y : Scene). y.said) same) grew

@@ -1,6 +1,9 @@
 -- A step leaves the number of members and the terms as they are.
 use Rattle.std.proofs.Common.{◌≡◌, ◌∙◌, ap, sym, refl, subst, ℕ, zero, suc, Bool, true, false, cond, List, [], ◌∷◌, ◌++◌, length, Option, Some, None, Result, Ok, Err}
 use Rattle.std.specs.Prelude.{OnOk, slice_get}
+use Rattle.digest_core.specs.declared.Digest.{Digest}
+use Rattle.quorum_core.specs.declared.signer.Signer.{Signer}
+use Rattle.chain_types.specs.Transactions as transactions
 use Rattle.outside.specs.Lists.{Journals}
 use Rattle.protocol_spec.proofs.ListLemmas.{set_length}
 use Rattle.protocol_spec.specs.Chain.Certificates.{Rules}
@@ -13,7 +16,7 @@ use Rattle.world_spec.specs.World.{Made, is_honest, said_by}
 use Rattle.world_spec.specs.Names.{made_named}
 use Rattle.world_spec.specs.Posts.{Post, arming, changed_at, posts_with, starting}
 use Rattle.world_spec.specs.Scene.{Scene, bare_world, rules_in}
-use Rattle.world_spec.specs.SceneSteps.{Work, acked_in, asks, called_if, called_scene, false_ack_in, hands, idle, next_on, sees_to, steps_to, work_of, worked}
+use Rattle.world_spec.specs.SceneSteps.{Work, acked_in, asks, called_if, called_scene, false_ack_in, hands, idle, next_on, sees_to, steps_to, voted_in, voted_scene, work_of, worked}
 use Rattle.world_core.specs.Restarts.{Accepting, RestartsAs}
 use Rattle.world_core.specs.Stays.{Stays}
 use Rattle.world_core.specs.declared.world.WorldFault.{WorldFault}
@@ -28,6 +31,13 @@ called_many r call posts m (Some p) = set_length posts m _
 
 one_call : (r : Rules) (sc : Scene) (m : ℕ) (call : Call) → Stays sc (called_scene r sc m call)
 one_call r sc m call = record { many = called_many r call sc.posts m (slice_get sc.posts m); terms = refl }
+
+one_vote : (seal : Signer → List ℕ → Digest) (r : Rules) (sc : Scene) (m : ℕ) (bytes : List ℕ) → Stays sc (voted_scene seal r sc m bytes)
+one_vote seal r sc m bytes = record { many = called_many r (votes bytes) sc.posts m (slice_get sc.posts m); terms = refl }
+
+any_vote : (seal : Signer → List ℕ → Digest) (r : Rules) (sc : Scene) (m : ℕ) (t : Option Made) → Stays sc (voted_in seal r sc m t)
+any_vote seal r sc m None = record { many = refl; terms = refl }
+any_vote seal r sc m (Some t) = one_vote seal r sc m (transactions.signed.spell t.signed)
 
 stays_then : (old mid new : Scene) → Stays old mid → Stays mid new → Stays old new
 stays_then old mid new one two = record { many = two.many ∙ one.many; terms = two.terms ∙ one.terms }
@@ -56,7 +66,7 @@ ack_stays r sc m spoiled (Some t) = go (is_honest (bare_world sc) m)
 pub stays : (trust : Trust) (sc : Scene) (e : Event) → Stays sc (steps_to trust sc e)
 unfolding steps_to
 stays trust sc (event.Tx name sender spoiled epoch gas budget inputs commands) = record { many = refl; terms = refl }
-stays trust sc (event.Vote m tx) = any_work (rules_in trust.accepts sc) sc (work_of sc (event.Vote m tx))
+stays trust sc (event.Vote m tx) = any_vote trust.seal (rules_in trust.accepts sc) sc m (made_named (bare_world sc) tx)
 stays trust sc (event.Fvote m tx origins) = record { many = refl; terms = refl }
 stays trust sc (event.Cert tx members) = record { many = refl; terms = refl }
 stays trust sc (event.Send m tx) = any_work (rules_in trust.accepts sc) sc (work_of sc (event.Send m tx))
@@ -71,7 +81,7 @@ stays trust sc (event.Turn m) = one_call (rules_in trust.accepts sc) sc m turns
 stays trust sc (event.Show m) = record { many = refl; terms = refl }
 stays trust sc (event.Stop m kept) = record { many = changed_many sc.posts m (arming kept) (slice_get sc.posts m); terms = refl }
 stays trust sc (event.Restart m) = record { many = refl; terms = refl }
-stays trust sc (event.RawVote m bytes) = one_call (rules_in trust.accepts sc) sc m (votes bytes)
+stays trust sc (event.RawVote m bytes) = one_vote trust.seal (rules_in trust.accepts sc) sc m bytes
 stays trust sc (event.RawHold m bytes) = one_call (rules_in trust.accepts sc) sc m (holds bytes)
 stays trust sc (event.Ack m tx spoiled) = ack_stays (rules_in trust.accepts sc) sc m spoiled (made_named (bare_world sc) tx)
 stays trust sc (event.Final tx members) = record { many = refl; terms = refl }

@@ -3,6 +3,8 @@ use Rattle.std.proofs.Common.{◌≡◌, ◌∙◌, ap, sym, refl, subst, ℕ, B
 use Rattle.std.specs.Prelude.{IfOk, option_map}
 use Rattle.digest_core.specs.declared.Digest.{Digest}
 use Rattle.quorum_core.specs.declared.signer.Signer.{Signer}
+use Rattle.chain_messages.specs.Messages as messages
+use Rattle.quorum_core.specs.declared.signer.Signer.TheVariants as signers
 use Rattle.chain_types.specs.declared.objects.Object.{Object}
 use Rattle.protocol_spec.specs.declared.answers.Ran.{Ran}
 use Rattle.protocol_spec.specs.declared.answers.Voted.{Voted as Sent}
@@ -24,7 +26,7 @@ use Rattle.report_text.specs.declared.lines.ShowText.TheVariants as show_text
 use Rattle.report_text.specs.declared.lines.VoteText.{VoteText}
 use Rattle.report_text.specs.declared.lines.VoteText.TheVariants as vote_text
 use Rattle.world_spec.specs.Setting.{Trust}
-use Rattle.world_spec.specs.World.{Reached, Said, answers, finds_down, ran_statements, said_by, stated, stops, voted_statement}
+use Rattle.world_spec.specs.World.{Reached, Said, answers, finds_down, ran_statements, said_by, stated, stops, voted_statement, sealed_by, said_under}
 use Rattle.world_spec.specs.Report.{hold_answered, hold_reached, run_answered, run_reached, shown, vote_answered, vote_reached}
 use Rattle.world_spec.specs.Known.{Known, setting_with, world_with}
 use Rattle.world_lines.specs.Answers.{vote_as}
@@ -39,6 +41,7 @@ use Rattle.schedule_text.specs.declared.words.Event.TheVariants as event
 use Rattle.world_core.specs.Crews.{shown_of}
 use Rattle.world_core.specs.Replies.{HasAnswered, HasStopped, SaysHold, SaysRun, SaysVote}
 use Rattle.world_core.specs.Texts.{hold_text_by, run_lines_by, show_by, vote_text_by}
+use Rattle.world_core.specs.Votes.{vote_under}
 
 -- ---- show
 
@@ -108,13 +111,27 @@ down_states r call m xs what is = sym (append-nil xs) ∙ sym (ap (λ x. xs ++ m
 pub stopped_states : (r : Rules) (call : Call) (m : ℕ) (xs : List Said) (what : Reached) → HasStopped what → xs ≡ xs ++ map (said_by m) (stated_in r call what)
 stopped_states r call m xs what is = sym (append-nil xs) ∙ sym (ap (λ x. xs ++ map (said_by m) (stated_in r call x)) is.is)
 
-pub vote_states : (r : Rules) (accepts : Signer → List ℕ → Digest → Bool) (m : ℕ) (bytes : List ℕ) (xs ys : List Said) (what : Reached) (given : Result Sent VoteRefusal)
-    → HasAnswered (SaysVote r accepts m bytes) what given → ys ≡ xs ++ map (said_by m) (voted_statement (vote_as given)) → ys ≡ xs ++ map (said_by m) (stated_in r (votes bytes) what)
+-- likewise of what a member states under its seal
+pub down_casts : (seal : Signer → List ℕ → Digest) (r : Rules) (call : Call) (m : ℕ) (xs : List Said) (what : Reached) → what ≡ finds_down → xs ≡ xs ++ map (sealed_by seal m) (stated_in r call what)
+down_casts seal r call m xs what is = sym (append-nil xs) ∙ sym (ap (λ x. xs ++ map (sealed_by seal m) (stated_in r call x)) is)
+
+pub stopped_casts : (seal : Signer → List ℕ → Digest) (r : Rules) (call : Call) (m : ℕ) (xs : List Said) (what : Reached) → HasStopped what → xs ≡ xs ++ map (sealed_by seal m) (stated_in r call what)
+stopped_casts seal r call m xs what is = sym (append-nil xs) ∙ sym (ap (λ x. xs ++ map (sealed_by seal m) (stated_in r call x)) is.is)
+
+-- the seal of a vote is accepted, so it is the one that is made
+vote_made : (accepts : Signer → List ℕ → Digest → Bool) (seal : Signer → List ℕ → Digest) → ((by : Signer) (text : List ℕ) (d : Digest) → accepts by text d ≡ true → d ≡ seal by text)
+    → (m : ℕ) (said : Result Voted VoteRefusal) (given : Result Sent VoteRefusal) → Votes accepts m said given → vote_under m given ≡ map (sealed_by seal m) (voted_statement (vote_as given))
+vote_made accepts seal exact m said (Ok v) is = ap (λ (d : Digest). said_under d m v.sealed.statement ∷ []) (exact (signers.Member m) (messages.statement.spell v.sealed.statement) v.sealed.seal is.1.accepted)
+vote_made accepts seal exact m said (Err refusal) is = refl
+
+pub vote_states : (r : Rules) (accepts : Signer → List ℕ → Digest → Bool) (seal : Signer → List ℕ → Digest) → ((by : Signer) (text : List ℕ) (d : Digest) → accepts by text d ≡ true → d ≡ seal by text) → (m : ℕ) (bytes : List ℕ) (xs ys : List Said) (what : Reached) (given : Result Sent VoteRefusal)
+    → HasAnswered (SaysVote r accepts m bytes) what given → ys ≡ xs ++ vote_under m given → ys ≡ xs ++ map (sealed_by seal m) (stated_in r (votes bytes) what)
 unfolding stated
-vote_states r accepts m bytes xs ys what given is y =
+vote_states r accepts seal exact m bytes xs ys what given is y =
     y
-    ∙ sym (ap (λ a. xs ++ map (said_by m) (voted_statement a)) (vote_is accepts m (vote_answer r is.before bytes) given is.says.answer is.says.ended))
-    ∙ sym (ap (λ x. xs ++ map (said_by m) (stated_in r (votes bytes) x)) is.is)
+    ∙ ap (λ (new : List Said). xs ++ new) (vote_made accepts seal exact m (vote_answer r is.before bytes) given is.says.answer)
+    ∙ sym (ap (λ a. xs ++ map (sealed_by seal m) (voted_statement a)) (vote_is accepts m (vote_answer r is.before bytes) given is.says.answer is.says.ended))
+    ∙ sym (ap (λ x. xs ++ map (sealed_by seal m) (stated_in r (votes bytes) x)) is.is)
 
 -- nothing is stated when a certificate is held
 pub hold_states : (r : Rules) (m : ℕ) (bytes : List ℕ) (xs : List Said) (what : Reached) → xs ≡ xs ++ map (said_by m) (stated_in r (holds bytes) what)

@@ -13,11 +13,11 @@ use Rattle.protocol_spec.specs.Chain.Words.{Each, first_some, last_where, where_
 use Rattle.report_text.specs.declared.lines.Line.{Line}
 use Rattle.report_text.specs.declared.lines.Line.TheVariants as line
 use Rattle.report_text.specs.declared.lines.CertText.TheVariants as cert_text
-use Rattle.world_spec.specs.Setting.{Name, Trust}
-use Rattle.world_spec.specs.World.{Formed, Made, Said, honest_seat, said_by}
+use Rattle.world_spec.specs.Setting.{Name, Trust, seal_of_member}
+use Rattle.world_spec.specs.World.{Formed, Made, Said, honest_seat, said_under, sealed_by}
 use Rattle.world_spec.specs.Names.{cert_in, made_named}
 use Rattle.world_spec.specs.Report.{cert_collected, cert_lines, fvote_lines, origin_names}
-use Rattle.world_spec.specs.Step.{formed, formed_as, fvote_origins, fvoted, first_origins, last_said, no_origins, origins_or, vote_in, votes_collected}
+use Rattle.world_spec.specs.Step.{certificate_of, formed, formed_as, fvote_origins, fvoted, first_origins, last_said, no_origins, origins_or, vote_in, votes_collected}
 use Rattle.world_spec.specs.Known.{Known, world_with}
 use Rattle.world_lines.specs.declared.rows.MadeTx.{MadeTx}
 use Rattle.world_lines.specs.KnownRows.{made_as}
@@ -25,7 +25,7 @@ use Rattle.cert_rules.specs.declared.collecting.Collected.{Collected as Given}
 use Rattle.cert_rules.specs.declared.collecting.Collected.TheVariants as given
 use Rattle.cert_rules.specs.Collecting.{collected_as}
 use Rattle.world_lines.specs.Answers.{is_whole}
-use Rattle.world_lines.specs.Forming.{certificate_by, first_origins_by}
+use Rattle.world_lines.specs.Forming.{first_origins_by}
 use Rattle.world_lines.specs.FalseVotes.{origins_by}
 use Rattle.world_lines.specs.SaidVotes.{first_vote, flags_of}
 use Rattle.world_lines.proofs.SaidWorlds.{first_from}
@@ -50,30 +50,31 @@ honest_same [] m = refl
 honest_same (p ∷ ps) zero = refl
 honest_same (p ∷ ps) (suc m) = honest_same ps m
 
-pub unnamed_votes : (sc : Scene) (m : ℕ) (words : List (Option Name)) (t : Option Made) → None ≡ t → sc ≡ record sc { said = (fvoted (bare_world sc) m words t).said }
-unnamed_votes sc m words None e = refl
-unnamed_votes sc m words (Some t) e = absurd (cc)
+pub unnamed_votes : (trust : Trust) (sc : Scene) (m : ℕ) (words : List (Option Name)) (t : Option Made) → None ≡ t → sc ≡ record sc { said = (fvoted (bare_setting trust sc) (bare_world sc) m words t).said }
+unnamed_votes trust sc m words None e = refl
+unnamed_votes trust sc m words (Some t) e = absurd (cc)
 
 pub unnamed_lines : (sc : Scene) (m : ℕ) (name : Name) (words : List (Option Name)) (t : Option Made) (lines : List Line) → None ≡ t → lines ≡ line.Fvote m name [] ∷ [] → lines ≡ fvote_lines (bare_world sc) m name words t
 unnamed_lines sc m name words None lines e l = l
 unnamed_lines sc m name words (Some t) lines e l = absurd (cc)
 
-at_honest : (sc : Scene) (m : ℕ) (words : List (Option Name)) (t : Made) (b : Bool) → flag_at (slice_get (honest_flags sc.posts) m) ≡ b
-    → (fvoted (bare_world sc) m words (Some t)).said ≡ cond b sc.said (sc.said ++ said_by m (statement.Vote t.signed.tx.epoch t.digest (origins_by sc.known sc.said (honest_flags sc.posts) t words)) ∷ [])
-at_honest sc m words t true is = ap (λ b. (cond b (bare_world sc) (record (bare_world sc) { said = sc.said ++ said_by m (statement.Vote t.signed.tx.epoch t.digest (fvote_origins (bare_world sc) t words)) ∷ [] })).said) (sym (honest_same sc.posts m) ∙ is)
-at_honest sc m words t false is =
-    ap (λ b. (cond b (bare_world sc) (record (bare_world sc) { said = sc.said ++ said_by m (statement.Vote t.signed.tx.epoch t.digest (fvote_origins (bare_world sc) t words)) ∷ [] })).said) (sym (honest_same sc.posts m) ∙ is)
-    ∙ ap (λ os. sc.said ++ said_by m (statement.Vote t.signed.tx.epoch t.digest os) ∷ []) (sym (origins_same sc t words))
+at_honest : (trust : Trust) (sc : Scene) (m : ℕ) (words : List (Option Name)) (t : Made) (b : Bool) → flag_at (slice_get (honest_flags sc.posts) m) ≡ b
+    → (fvoted (bare_setting trust sc) (bare_world sc) m words (Some t)).said ≡ cond b sc.said (sc.said ++ sealed_by trust.seal m (statement.Vote t.signed.tx.epoch t.digest (origins_by sc.known sc.said (honest_flags sc.posts) t words)) ∷ [])
+at_honest trust sc m words t true is = ap (λ b. (cond b (bare_world sc) (record (bare_world sc) { said = sc.said ++ sealed_by trust.seal m (statement.Vote t.signed.tx.epoch t.digest (fvote_origins (bare_world sc) t words)) ∷ [] })).said) (sym (honest_same sc.posts m) ∙ is)
+at_honest trust sc m words t false is =
+    ap (λ b. (cond b (bare_world sc) (record (bare_world sc) { said = sc.said ++ sealed_by trust.seal m (statement.Vote t.signed.tx.epoch t.digest (fvote_origins (bare_world sc) t words)) ∷ [] })).said) (sym (honest_same sc.posts m) ∙ is)
+    ∙ ap (λ os. sc.said ++ sealed_by trust.seal m (statement.Vote t.signed.tx.epoch t.digest os) ∷ []) (sym (origins_same sc t words))
 
-pub honest_votes_not : (sc : Scene) (m : ℕ) (words : List (Option Name)) (made : MadeTx) (t : Option Made) → Some (made_as made) ≡ t → flag_at (slice_get (honest_flags sc.posts) m) ≡ true → sc.said ≡ (fvoted (bare_world sc) m words t).said
-honest_votes_not sc m words made None e is = absurd (cc)
-honest_votes_not sc m words made (Some t) e is = sym (at_honest sc m words t true is)
+pub honest_votes_not : (trust : Trust) (sc : Scene) (m : ℕ) (words : List (Option Name)) (made : MadeTx) (t : Option Made) → Some (made_as made) ≡ t → flag_at (slice_get (honest_flags sc.posts) m) ≡ true → sc.said ≡ (fvoted (bare_setting trust sc) (bare_world sc) m words t).said
+honest_votes_not trust sc m words made None e is = absurd (cc)
+honest_votes_not trust sc m words made (Some t) e is = sym (at_honest trust sc m words t true is)
 
-pub faulty_votes : (sc : Scene) (m : ℕ) (words : List (Option Name)) (made : MadeTx) (t : Option Made) (origins : List (Option Digest)) (said : List Said) → Some (made_as made) ≡ t
+pub faulty_votes : (trust : Trust) (sc : Scene) (m : ℕ) (words : List (Option Name)) (made : MadeTx) (t : Option Made) (origins : List (Option Digest)) (seal : Digest) (said : List Said) → Some (made_as made) ≡ t
     → flag_at (slice_get (honest_flags sc.posts) m) ≡ false → origins ≡ origins_by sc.known sc.said (honest_flags sc.posts) (made_as made) words
-    → said ≡ sc.said ++ said_by m (statement.Vote made.signed.tx.epoch made.digest origins) ∷ [] → said ≡ (fvoted (bare_world sc) m words t).said
-faulty_votes sc m words made t origins said e is o s =
-    s ∙ ap (λ os. sc.said ++ said_by m (statement.Vote made.signed.tx.epoch made.digest os) ∷ []) o ∙ sym (at_honest sc m words (made_as made) false is) ∙ ap (λ x. (fvoted (bare_world sc) m words x).said) e
+    → seal ≡ seal_of_member trust.seal m (statement.Vote made.signed.tx.epoch made.digest origins)
+    → said ≡ sc.said ++ said_under seal m (statement.Vote made.signed.tx.epoch made.digest origins) ∷ [] → said ≡ (fvoted (bare_setting trust sc) (bare_world sc) m words t).said
+faulty_votes trust sc m words made t origins seal said e is o sealed s =
+    s ∙ ap (λ (d : Digest). sc.said ++ said_under d m (statement.Vote made.signed.tx.epoch made.digest origins) ∷ []) sealed ∙ ap (λ os. sc.said ++ sealed_by trust.seal m (statement.Vote made.signed.tx.epoch made.digest os) ∷ []) o ∙ sym (at_honest trust sc m words (made_as made) false is) ∙ ap (λ x. (fvoted (bare_setting trust sc) (bare_world sc) m words x).said) e
 
 pub vote_lines : (sc : Scene) (m : ℕ) (name : Name) (words : List (Option Name)) (made : MadeTx) (t : Option Made) (origins : List (Option Digest)) (lines : List Line) → Some (made_as made) ≡ t
     → origins ≡ origins_by sc.known sc.said (honest_flags sc.posts) (made_as made) words → lines ≡ line.Fvote m name (origin_names (world_with sc.known) origins) ∷ [] → lines ≡ fvote_lines (bare_world sc) m name words t
@@ -124,23 +125,23 @@ collected_lines trust sc name ms made t got lines e c l =
     l ∙ ap (λ y. line.Cert name (cert_collected ms y) ∷ []) c ∙ ap (cert_lines (bare_setting trust sc) (bare_world sc) name ms) e
 
 -- what is formed, by what was collected
-forms : (trust : Trust) (sc : Scene) (ms : List ℕ) (t : Made) (c : Collected) → c ≡ collects sc t.signed.tx.epoch t.digest ms → (formed_as (bare_setting trust sc) (bare_world sc) t ms c).certs ≡ (formed (bare_setting trust sc) (bare_world sc) ms (Some t)).certs
+forms : (trust : Trust) (sc : Scene) (ms : List ℕ) (t : Made) (c : Collected) → c ≡ collects sc t.signed.tx.epoch t.digest ms → (formed_as (bare_world sc) t ms c).certs ≡ (formed (bare_setting trust sc) (bare_world sc) ms (Some t)).certs
 unfolding votes_collected
-forms trust sc ms t c is = ap (λ x. (formed_as (bare_setting trust sc) (bare_world sc) t ms x).certs) is
+forms trust sc ms t c is = ap (λ x. (formed_as (bare_world sc) t ms x).certs) is
 
 first_same : (sc : Scene) (t : Made) (ms : List ℕ) → first_origins_by sc.said t.signed.tx.epoch t.digest ms ≡ first_origins (bare_world sc) t ms
 first_same sc t [] = refl
 first_same sc t (m ∷ ms) = refl
 
 pub whole_forms : (trust : Trust) (sc : Scene) (ms : List ℕ) (made : MadeTx) (t : Option Made) (got : Given) (cert : Certificate) (certs : List Formed) → Some (made_as made) ≡ t
-    → collected_as got ≡ collects sc made.signed.tx.epoch made.digest ms → is_whole got ≡ true → cert ≡ certificate_by trust.seal (made_as made) (first_origins_by sc.said made.signed.tx.epoch made.digest ms) ms
+    → collected_as got ≡ collects sc made.signed.tx.epoch made.digest ms → is_whole got ≡ true → cert ≡ certificate_of sc.said (made_as made) (first_origins_by sc.said made.signed.tx.epoch made.digest ms) ms
     → certs ≡ sc.certs ++ record { name = made.name; cert = cert } ∷ [] → certs ≡ (formed (bare_setting trust sc) (bare_world sc) ms t).certs
 whole_forms trust sc ms made t (given.Lacks m) cert certs e c is b n = absurd (cc)
 whole_forms trust sc ms made t (given.Short w total) cert certs e c is b n = absurd (cc)
 whole_forms trust sc ms made t (given.Differ x y) cert certs e c is b n = absurd (cc)
 whole_forms trust sc ms made t given.Whole cert certs e c is b n =
     n
-    ∙ ap (λ (x : Certificate). sc.certs ++ record { name = made.name; cert = x } ∷ []) (b ∙ ap (λ os. certificate_by trust.seal (made_as made) os ms) (first_same sc (made_as made) ms))
+    ∙ ap (λ (x : Certificate). sc.certs ++ record { name = made.name; cert = x } ∷ []) (b ∙ ap (λ os. certificate_of sc.said (made_as made) os ms) (first_same sc (made_as made) ms))
     ∙ forms trust sc ms (made_as made) whole c
     ∙ ap (λ x. (formed (bare_setting trust sc) (bare_world sc) ms x).certs) e
 
@@ -187,7 +188,7 @@ form_others trust v sc name ms made got b same e c w n =
     (ap (with_certs v) (others_form trust v ms made (made_named (bare_world v) name) got e c (sym w ∙ n)))
 
 pub form_whole : (trust : Trust) (v sc : Scene) (name : Name) (ms : List ℕ) (made : MadeTx) (got : Given) (b : Bool) (cert : Certificate) (certs : List Formed) → v ≡ sc → Some (made_as made) ≡ made_named (bare_world v) name
-    → collected_as got ≡ collects v made.signed.tx.epoch made.digest ms → b ≡ is_whole got → b ≡ true → cert ≡ certificate_by trust.seal (made_as made) (first_origins_by v.said made.signed.tx.epoch made.digest ms) ms
+    → collected_as got ≡ collects v made.signed.tx.epoch made.digest ms → b ≡ is_whole got → b ≡ true → cert ≡ certificate_of v.said (made_as made) (first_origins_by v.said made.signed.tx.epoch made.digest ms) ms
     → certs ≡ v.certs ++ record { name = made.name; cert = cert } ∷ [] → with_certs v certs ≡ with_certs sc (formed (bare_setting trust sc) (bare_world sc) ms (made_named (bare_world sc) name)).certs
 form_whole trust v sc name ms made got b cert certs same e c w n by is =
     subst (λ (x : Scene). with_certs v certs ≡ with_certs x (formed (bare_setting trust x) (bare_world x) ms (made_named (bare_world x) name)).certs) same

@@ -1,6 +1,14 @@
--- Which members may vote falsely.
-use Rattle.std.specs.Prelude.{Bool, false, Option, Some, None}
+-- Which members may vote falsely, and what is kept of a vote.
+use Rattle.std.specs.Prelude.{ℕ, Bool, false, List, [], ◌∷◌, Option, Some, None, Result, Ok, Err}
+use Rattle.protocol_spec.specs.declared.answers.Voted.{Voted as Sent}
+use Rattle.protocol_spec.specs.declared.refusals.VoteRefusal.{VoteRefusal}
+use Rattle.world_spec.specs.World.{Said, said_under}
 
 abbrev pub flag_at : Option Bool → Bool
 flag_at None = false
 flag_at (Some honest) = honest
+
+-- a vote that was given is stated under the seal that came with it
+abbrev pub vote_under : ℕ → Result Sent VoteRefusal → List Said
+vote_under m (Ok v) = said_under v.sealed.seal m v.sealed.statement ∷ []
+vote_under m (Err refusal) = []

@@ -10,19 +10,20 @@ ghost use Rattle.protocol_spec.specs.Member.Calls.{holds, runs, votes};
 ghost use Rattle.schedule_text.specs.declared.words.Event.TheVariants as events;
 ghost use Rattle.world_spec.specs.Names.{cert_named, made_named};
 ghost use Rattle.world_spec.specs.Report.{run_answered, run_reached, vote_answered};
-ghost use Rattle.world_spec.specs.World.{ran_statements, said_by, voted_statement};
+ghost use Rattle.world_spec.specs.World.{ran_statements, said_by, sealed_by};
 ghost use Rattle.world_lines.specs.Answers.{vote_as};
 ghost use Rattle.world_lines.specs.Pushed.{GrowsToward};
 ghost use Rattle.world_spec.specs.Known.{setting_with, world_with};
 ghost use Rattle.world_spec.specs.Posts.{posts_behind, reached_in, record_left, stated_in};
 ghost use Rattle.world_spec.specs.Scene.{bare_setting, bare_world, rules_in};
-ghost use Rattle.world_spec.specs.SceneSteps.{called_scene, hold_text_in, lines_in, steps_to, vote_text_in, work_of};
+ghost use Rattle.world_spec.specs.SceneSteps.{called_scene, hold_text_in, lines_in, steps_to, vote_text_in, voted_scene, work_of};
 ghost use Rattle.world_core.specs.declared.reply.SeatFault.TheVariants as fault;
 ghost use Rattle.world_core.specs.Cuts.{CallCut, LineCut, books_in};
 ghost use Rattle.world_core.specs.Replies.{Leaves};
 ghost use Rattle.world_core.specs.Kept.{LeavesAs, is_call};
 ghost use Rattle.world_core.specs.Texts.{hold_text_by, run_lines_by, spelled_cert, spelled_tx, vote_text_by};
 ghost use Rattle.world_core.specs.Trusts.{trust_by};
+ghost use Rattle.world_core.specs.Votes.{vote_under};
 
 use crate::world::World;
 use crate::{Reply, SeatFault, Seats};
@@ -44,13 +45,14 @@ fn tell_vote(
     answer: Result<Voted, VoteRefusal>,
 ) -> Result<VoteText, OutOfMemory>
     ensures text { IfOk result (λ text. text ≡ vote_answered (setting_with directory.now) (world_with directory.now) (vote_as answer)) }
-    ensures said { OnOk result (said.new ≡ said.old ++ map (said_by member) (voted_statement (vote_as answer))) }
+    ensures said { OnOk result (said.new ≡ said.old ++ vote_under member answer) }
     ensures unsaid { OnErr result (said.new ≡ said.old) }
 {
     let text = vote_text(directory, &answer)?;
     match answer {
         Ok(voted) => {
-            said.say(member, voted.sealed.statement)?;
+            let seal = voted.sealed.seal;
+            said.say_sealed(member, voted.sealed.statement, seal)?;
             Ok(text)
         }
         Err(_refusal) => Ok(text),
@@ -58,8 +60,8 @@ fn tell_vote(
 }
 
 /// Asks a member for its vote for the transaction that the bytes encode.
-#[tactic(auto, using(crate::proofs::Texts::vote_down, crate::proofs::Texts::vote_stopped, crate::proofs::Texts::vote_said, crate::proofs::Texts::down_states, crate::proofs::Texts::stopped_states, crate::proofs::Texts::vote_states))]
-fn ask<R: Threads + Sync, D: Keeper, S: Sealer>(
+#[tactic(auto, using(crate::proofs::Texts::vote_down, crate::proofs::Texts::vote_stopped, crate::proofs::Texts::vote_said, crate::proofs::Texts::down_casts, crate::proofs::Texts::stopped_casts))]
+fn ask<R: Threads + Sync, D: Keeper, S: MakesSeals>(
     rt: &R,
     seats: &mut Seats,
     said: &mut SaidBook,
@@ -71,7 +73,7 @@ fn ask<R: Threads + Sync, D: Keeper, S: Sealer>(
 ) -> Result<VoteText, SeatFault>
     requires known { length seats.old.posts ≤ D.width keeper.old }
     ensures text { IfOk result (λ text. text ≡ vote_text_by directory.now (rules_for seats.old.terms (S.accepts sealer.now)) bytes.now (reached_in (rules_for seats.old.terms (S.accepts sealer.now)) seats.old.posts member (votes bytes.now))) }
-    ensures said { OnOk result (said.new ≡ said.old ++ map (said_by member) (stated_in (rules_for seats.old.terms (S.accepts sealer.now)) (votes bytes.now) (reached_in (rules_for seats.old.terms (S.accepts sealer.now)) seats.old.posts member (votes bytes.now)))) }
+    ensures said { OnOk result (said.new ≡ said.old ++ map (sealed_by (S.made sealer.now) member) (stated_in (rules_for seats.old.terms (S.accepts sealer.now)) (votes bytes.now) (reached_in (rules_for seats.old.terms (S.accepts sealer.now)) seats.old.posts member (votes bytes.now)))) }
     ensures unsaid { OnErr result (said.new ≡ said.old) }
     ensures posts { OnOk result (seats.new.posts ≡ posts_behind (rules_for seats.old.terms (S.accepts sealer.now)) seats.old.posts member (votes bytes.now)) }
     ensures terms { seats.new.terms ≡ seats.old.terms }
@@ -256,7 +258,7 @@ impl World {
         bytes: &[u8],
     ) -> Result<VoteText, SeatFault>
         requires room { length self.old.posts ≤ D.width keeper.old }
-        ensures world { OnOk result (self.new ≡ called_scene (rules_in (S.accepts sealer.now) self.old) self.old member (votes bytes.now)) }
+        ensures world { OnOk result (self.new ≡ voted_scene (S.made sealer.now) (rules_in (S.accepts sealer.now) self.old) self.old member bytes.now) }
         ensures text { IfOk result (λ text. text ≡ vote_text_in (trust_by (S.made sealer.now) (S.accepts sealer.now)) self.old member bytes.now) }
         ensures kept { Leaves (D.lists keeper.old) (D.lists keeper.new) member (record_left (reached_in (rules_in (S.accepts sealer.now) self.old) self.old.posts member (votes bytes.now))) result }
         ensures cut { OnErr result (CallCut (rules_in (S.accepts sealer.now) self.old) member (votes bytes.now) self.old.posts self.new.posts (D.lists keeper.old) (D.lists keeper.new)) }

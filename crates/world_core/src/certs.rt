@@ -18,12 +18,12 @@ impl World {
     #[tactic(auto, using(crate::proofs::Sound::sound_formed, crate::proofs::Voting::spelled_named, crate::proofs::Voting::unnamed_forms, crate::proofs::Voting::whole_forms, crate::proofs::Voting::others_form, crate::proofs::Voting::collected_lines, crate::proofs::Voting::unnamed_cert_lines))]
     pub(crate) fn form_cert<S: MakesSeals>(
         &mut self,
-        sealer: &S,
+        _sealer: &S,
         tx: &[u8],
         members: &[u32],
     ) -> Result<Seq<Line>, OutOfMemory>
-        ensures world { OnOk result (self.new ≡ record self.old { certs = (formed (bare_setting (trust_by (S.made sealer.now) (S.accepts sealer.now)) self.old) (bare_world self.old) members.now (made_named (bare_world self.old) tx.now)).certs }) }
-        ensures lines { IfOk result (λ lines. lines ≡ cert_lines (bare_setting (trust_by (S.made sealer.now) (S.accepts sealer.now)) self.old) (bare_world self.old) tx.now members.now (made_named (bare_world self.old) tx.now)) }
+        ensures world { OnOk result (self.new ≡ record self.old { certs = (formed (bare_setting (trust_by (S.made _sealer.now) (S.accepts _sealer.now)) self.old) (bare_world self.old) members.now (made_named (bare_world self.old) tx.now)).certs }) }
+        ensures lines { IfOk result (λ lines. lines ≡ cert_lines (bare_setting (trust_by (S.made _sealer.now) (S.accepts _sealer.now)) self.old) (bare_world self.old) tx.now members.now (made_named (bare_world self.old) tx.now)) }
         ensures still { OnErr result (still_in self.new ≡ still_in self.old) }
         ensures unsaid { self.new.said ≡ self.old.said }
     {
@@ -38,7 +38,7 @@ impl World {
         if !is_whole(&collected) {
             return Ok(lines);
         }
-        let cert = certify(self.alloc, sealer, &self.said, made, members)?;
+        let cert = certify(self.alloc, &self.said, made, members)?;
         let encoded = Encoded::new(self.alloc, cert)?;
         self.certs.add(made.name.as_slice(), encoded)?;
         Ok(lines)

@@ -101,7 +101,7 @@ impl World {
         sealer: &S,
         member: u32,
     ) -> Result<Seq<Line>, OutOfMemory>
-        ensures world { OnOk result (self.new ≡ with_order self.old (ordered_end (bare_setting (trust_by (S.made sealer.now) (S.accepts sealer.now)) self.old) (says (bare_world self.old) member (statement.End self.old.epoch)) member self.old.epoch)) }
+        ensures world { OnOk result (self.new ≡ with_order self.old (ordered_end (bare_setting (trust_by (S.made sealer.now) (S.accepts sealer.now)) self.old) (says (S.made sealer.now) (bare_world self.old) member (statement.End self.old.epoch)) member self.old.epoch)) }
         ensures lines { IfOk result (λ lines. lines ≡ line.OrderEnd member (order_end_text.Entry (length (open_entries (bare_world self.old)))) ∷ []) }
         ensures still { OnErr result (SeenCut still_in (trust_by (S.made sealer.now) (S.accepts sealer.now)) self.old (Some member) self.new) }
         ensures said { OnErr result (GrowsToward self.old.said self.new.said (self.old.said ++ said_by member (statement.End self.old.epoch) ∷ [])) }

@@ -117,7 +117,7 @@ impl World {
                 member,
                 tx,
                 origins,
-            } => self.false_vote(*member, tx.as_slice(), origins.as_slice()),
+            } => self.false_vote(sealer, *member, tx.as_slice(), origins.as_slice()),
             Event::Cert { tx, members } => {
                 self.form_cert(sealer, tx.as_slice(), members.as_slice())
             }

@@ -1,7 +1,6 @@
 -- What lines form and order can be encoded.
 use Rattle.std.proofs.Common.{◌≡◌, ◌∙◌, ap, sym, refl, subst, suc, ℕ, ◌≤◌, List, [], ◌∷◌, length, Option, arith}
 use Rattle.digest_core.specs.declared.Digest.{Digest}
-use Rattle.quorum_core.specs.declared.signer.Signer.{Signer}
 use Rattle.wire_bcs.specs.Digests.{digest}
 use Rattle.chain_types.specs.Transactions as transactions
 use Rattle.chain_messages.specs.declared.messages.Certificate.{Certificate}
@@ -10,9 +9,10 @@ use Rattle.chain_messages.specs.declared.messages.Statement.TheVariants as state
 use Rattle.chain_messages.specs.Messages as messages
 use Rattle.protocol_spec.proofs.Checked.{origin_short, tx_short}
 use Rattle.world_spec.specs.World.{Said, list_or_none}
+use Rattle.world_spec.specs.Step.{certificate_of}
 use Rattle.world_lines.specs.declared.rows.MadeTx.{MadeTx}
 use Rattle.world_lines.specs.KnownRows.{made_as}
-use Rattle.world_lines.specs.Forming.{certificate_by, first_origins_by}
+use Rattle.world_lines.specs.Forming.{first_origins_by}
 use Rattle.world_lines.specs.SaidVotes.{vote_by}
 
 -- votes with origins that are not too many
@@ -21,14 +21,14 @@ unfolding messages.statement digest
 vote_short epoch tx origins few = (tt, (tt, (omega arith, λ k d l. origin_short _)))
 
 -- a certificate whose lists are not too long
-pub certificate_short : (seal : Signer → List ℕ → Digest) (t : MadeTx) (origins : List (Option Digest)) (ms : List ℕ) (c : Certificate)
-    → transactions.signed.short t.signed → length origins ≤ 2147483647 → length ms ≤ 2147483647 → c ≡ certificate_by seal (made_as t) origins ms → messages.certificate.short c
+pub certificate_short : (said : List Said) (t : MadeTx) (origins : List (Option Digest)) (ms : List ℕ) (c : Certificate)
+    → transactions.signed.short t.signed → length origins ≤ 2147483647 → length ms ≤ 2147483647 → c ≡ certificate_of said (made_as t) origins ms → messages.certificate.short c
 unfolding messages.certificate messages.member_seal digest
-certificate_short seal t origins ms c tx few some is =
+certificate_short said t origins ms c tx few some is =
     subst messages.certificate.short (sym is)
     (tx_short t.signed tx, ((omega arith, λ k d l. origin_short _), (let n = seals_length ms in omega arith, λ k d l. (tt, tt))))
   where
-    seals_length : (xs : List ℕ) → length (certificate_by seal (made_as t) origins xs).seals ≡ length xs
+    seals_length : (xs : List ℕ) → length (certificate_of said (made_as t) origins xs).seals ≡ length xs
     seals_length [] = refl
     seals_length (x ∷ xs) = ap suc (seals_length xs)
 

@@ -12,7 +12,11 @@ use Rattle.world_lines.specs.declared.formed.FormedRow.{FormedRow}
 -- ---- statements
 
 abbrev pub said_as : SaidRow → Said
-said_as r = record { member = r.member; statement = r.statement }
+said_as r = record { member = r.member; statement = r.statement; seal = r.seal }
+
+-- a statement with this seal, if any
+abbrev pub said_with : ℕ → Statement → Option Digest → Said
+said_with m st seal = record { member = m; statement = st; seal = seal }
 
 abbrev pub said_list : List SaidRow → List Said
 said_list rows = map said_as rows
@@ -42,6 +46,9 @@ row_effects r = effects_in r.statement
 
 abbrev pub row_statement : SaidRow → Statement
 row_statement r = r.statement
+
+abbrev pub row_seal : SaidRow → Option (Option Digest)
+row_seal r = Some r.seal
 
 -- ---- certificates
 

@@ -3,9 +3,11 @@
 ghost use Rattle.std.specs.Prelude.{◌≡◌, IfOk, map};
 ghost use Rattle.chain_messages.specs.Messages as codecs;
 ghost use Rattle.chain_types.specs.Transactions as tx_codecs;
+ghost use Rattle.world_spec.specs.Setting.{seal_of_member};
 ghost use Rattle.world_spec.specs.World.{list_or_none};
+ghost use Rattle.world_spec.specs.Step.{certificate_of, collected_seal, vote_statement};
 ghost use Rattle.world_lines.specs.KnownRows.{made_as};
-ghost use Rattle.world_lines.specs.Forming.{certificate_by, first_origins_by, sealed_with, vote_bytes};
+ghost use Rattle.world_lines.specs.Forming.{first_origins_by, vote_bytes};
 ghost use Rattle.world_lines.specs.SaidVotes.{vote_by};
 
 use crate::said::SaidBook;
@@ -40,46 +42,61 @@ fn vote_bytes(
     encode_statement(alloc, &vote)
 }
 
-/// The seal of a member over these bytes. Takes no memory.
-fn seal_of<S: MakesSeals>(sealer: &S, bytes: &[u8], member: u32) -> MemberSeal
-    ensures { result ≡ sealed_with (S.made sealer.now) bytes.now member }
-{
-    MemberSeal {
-        member,
-        seal: sealer.make_seal(&Signer::Member(member), bytes),
-    }
-}
-
-/// The seals of members over these bytes, in their order.
-fn seals_of<S: MakesSeals>(
-    alloc: Global,
-    sealer: &S,
-    bytes: &[u8],
-    members: &[u32],
-) -> Result<Vec<MemberSeal>, OutOfMemory>
-    ensures { IfOk result (λ seals. seals.items ≡ map (sealed_with (S.made sealer.now) bytes.now) members.now) }
-{
-    Ok(
-        members
-            .iter()
-            .map(|member| seal_of(sealer, bytes, *member))
-            .collect(alloc)?,
-    )
-}
-
-/// The certificate of these members' votes for a transaction, which name these origins: each member seals the same
-/// bytes. Origins that are too many to be encoded, more than 2147483647, are reported as out of memory.
-pub fn certificate<S: MakesSeals>(
+/// The seal of a member on its vote for a transaction. More than 2147483647 origins have no encoding, which is reported as
+/// out of memory.
+pub fn vote_seal<S: MakesSeals>(
     alloc: Global,
     sealer: &S,
     made: &MadeTx,
     origins: &[Option<Digest>],
-    members: &[u32],
-) -> Result<Certificate, OutOfMemory>
-    ensures { IfOk result (λ cert. cert ≡ certificate_by (S.made sealer.now) (made_as made.now) origins.now members.now) }
+    member: u32,
+) -> Result<Digest, OutOfMemory>
+    ensures { IfOk result (λ seal. seal ≡ seal_of_member (S.made sealer.now) member (vote_statement made.now.signed.tx made.now.digest origins.now)) }
 {
     let bytes = vote_bytes(alloc, made, origins)?;
-    let seals = seals_of(alloc, sealer, bytes.as_slice(), members)?;
+    Ok(sealer.make_seal(&Signer::Member(member), bytes.as_slice()))
+}
+
+/// The seal that a member put on its last vote for a transaction; zeros if it made none. Takes no memory.
+fn collected_seal(said: &SaidBook, made: &MadeTx, member: u32) -> MemberSeal
+    ensures { result ≡ collected_seal said.now (made_as made.now) member }
+{
+    let epoch = made.signed.value().tx.epoch;
+    let seal = match said.last_seal(member, epoch, &made.digest) {
+        Some(seal) => seal,
+        None => Digest([0; 32]),
+    };
+    MemberSeal { member, seal }
+}
+
+/// The seals of the last votes of members for a transaction, in the order of the members.
+fn collected_seals(
+    alloc: Global,
+    said: &SaidBook,
+    made: &MadeTx,
+    members: &[u32],
+) -> Result<Vec<MemberSeal>, OutOfMemory>
+    ensures { IfOk result (λ seals. seals.items ≡ map (collected_seal said.now (made_as made.now)) members.now) }
+{
+    Ok(
+        members
+            .iter()
+            .map(|member| collected_seal(said, made, *member))
+            .collect(alloc)?,
+    )
+}
+
+/// The certificate of these members' votes for a transaction, which name these origins.
+fn certificate(
+    alloc: Global,
+    said: &SaidBook,
+    made: &MadeTx,
+    origins: &[Option<Digest>],
+    members: &[u32],
+) -> Result<Certificate, OutOfMemory>
+    ensures { IfOk result (λ cert. cert ≡ certificate_of said.now (made_as made.now) origins.now members.now) }
+{
+    let seals = collected_seals(alloc, said, made, members)?;
     Ok(Certificate {
         tx: made.signed.value().tx.copy()?,
         origins: Seq::from_slice(alloc, origins)?,
@@ -120,18 +137,17 @@ fn first_origins(
     }
 }
 
-/// The certificate of the votes of these members, which can be encoded. Lists that are too long for that count as
-/// running out of memory.
+/// The certificate of the votes of these members, with the seals that they put on them, which can be encoded. Lists that
+/// are too long for that count as running out of memory.
 #[tactic(auto, using(crate::proofs::Spelled::certificate_short))]
-pub fn certify<S: MakesSeals>(
+pub fn certify(
     alloc: Global,
-    sealer: &S,
     said: &SaidBook,
     made: &MadeTx,
     members: &[u32],
 ) -> Result<Certificate, OutOfMemory>
     requires { tx_codecs.signed.short made.now.signed }
-    ensures cert { IfOk result (λ cert. cert ≡ certificate_by (S.made sealer.now) (made_as made.now) (first_origins_by said.now made.now.signed.tx.epoch made.now.digest members.now) members.now) }
+    ensures cert { IfOk result (λ cert. cert ≡ certificate_of said.now (made_as made.now) (first_origins_by said.now made.now.signed.tx.epoch made.now.digest members.now) members.now) }
     ensures short { IfOk result (λ cert. codecs.certificate.short cert) }
 {
     let epoch = made.signed.value().tx.epoch;
@@ -139,5 +155,5 @@ pub fn certify<S: MakesSeals>(
     if origins.len() > LONGEST_LIST || members.len() as u64 > LONGEST_LIST {
         return Err(OutOfMemory);
     }
-    certificate(alloc, sealer, made, origins.as_slice(), members)
+    certificate(alloc, said, made, origins.as_slice(), members)
 }

@@ -6,10 +6,10 @@
 //! A [`SaidBook`] keeps all statements, oldest first, and finds by maps a member's last vote for a transaction, its last
 //! End, and its last acknowledgement of a transaction in an epoch; [`SaidBook::collect`] and [`SaidBook::collect_acks`]
 //! say what the last votes and acknowledgements of members give. A [`CertBook`] keeps the certificates under the
-//! names for which they were formed, and finds the last of a name by a map. [`certificate`] seals a vote for each
-//! member that is named. An [`OrderBook`] keeps the sequences of the epochs, each entry encoded once, and beside them
-//! the Ends of the open epoch: only they say whether it has ended. Each answer is the definition's, one equation a
-//! call.
+//! names for which they were formed, and finds the last of a name by a map. [`certify`] collects the votes of members
+//! with the seals that they put on them. An [`OrderBook`] keeps the sequences of the epochs, each entry encoded once,
+//! and beside them the Ends of the open epoch: only they say whether it has ended. Each answer is the definition's, one
+//! equation a call.
 //!
 //! What is known under names in a run, and the transaction that a line makes.
 //!
@@ -72,7 +72,7 @@ pub use entries::add_entry_lines;
 pub use epochs::{ack_text, close_text, end_text, turn_lines};
 pub use false_votes::{false_origins, false_vote_line, false_vote_lines};
 pub use formed::CertBook;
-pub use forming::{certificate, certify};
+pub use forming::{certify, vote_seal};
 pub use holds::hold_text;
 pub use inputs::{HeldDigests, spoiled_if};
 pub use line::TxLine;

@@ -1,6 +1,6 @@
 //! Making a transaction.
 
-ghost use Rattle.std.specs.Prelude.{◌≡◌, ℕ, List, IfOk};
+ghost use Rattle.std.specs.Prelude.{◌≡◌, ℕ, List, IfOk, true};
 ghost use Rattle.digest_core.specs.declared.Digest.{Digest as Seal};
 ghost use Rattle.quorum_core.specs.declared.signer.Signer.{Signer as Who};
 ghost use Rattle.quorum_core.specs.Seals.{keyed_seal};
@@ -20,17 +20,24 @@ use quorum_core::{KeyedSeal, Sealer, Signer};
 use std::alloc::Global;
 use wire_bcs::{Encoded, OutOfMemory, Seq};
 
-/// A sealer whose seals are determined by the signer and the bytes.
+/// A sealer whose seals are determined by the signer and the bytes: it accepts no other than the one that it makes.
 pub trait MakesSeals: Sealer {
     ghost made: { Self → Who → List ℕ → Seal };
 
     /// The seal of the signer over the bytes. Takes no memory.
     fn make_seal(&self, signer: &Signer, bytes: &[u8]) -> Digest
         ensures { result ≡ made self.now signer.now bytes.now };
+
+    /// A seal that is accepted is the one that is made.
+    ghost exact: { (sealer : Self) (signer : Who) (bytes : List ℕ) (seal : Seal) → Self.accepts sealer signer bytes seal ≡ true → seal ≡ made sealer signer bytes };
 }
 
 impl MakesSeals for KeyedSeal {
+    ghost use Rattle.protocol_spec.proofs.Equality.{digest_same};
+
     ghost made = { λ sealer signer bytes. keyed_seal sealer.secret signer bytes };
+
+    ghost exact = { λ sealer signer bytes seal accepted. digest_same seal (keyed_seal sealer.secret signer bytes) accepted };
 
     fn make_seal(&self, signer: &Signer, bytes: &[u8]) -> Digest {
         self.seal(signer, bytes)

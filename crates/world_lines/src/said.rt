@@ -2,10 +2,10 @@
 
 ghost use Rattle.std.specs.Prelude.{◌≡◌, ◌<◌, ◌++◌, ◌∷◌, [], OnErr, OnOk, map, option_and_then, option_copied, option_map, slice_get};
 ghost use Rattle.std.specs.Vec.{vec_capacity, vec_len};
-ghost use Rattle.world_spec.specs.World.{checkpoint_statement, said_by};
-ghost use Rattle.world_spec.specs.Step.{ack_in, end_in, last_said};
+ghost use Rattle.world_spec.specs.World.{checkpoint_statement, kept_seal, said_by, said_under};
+ghost use Rattle.world_spec.specs.Step.{ack_in, end_in, last_said, last_seal, the_seal};
 ghost use Rattle.world_lines.specs.Pushed.{GrowsToward};
-ghost use Rattle.world_lines.specs.Rows.{effects_in, origins_in, row_effects, row_end, row_origins, row_statement};
+ghost use Rattle.world_lines.specs.Rows.{effects_in, origins_in, row_effects, row_end, row_origins, row_seal, row_statement, said_with};
 ghost use Rattle.world_lines.specs.SaidVotes.{first_vote, vote_by, vote_if};
 
 use crate::stated::LastPlaces;
@@ -16,11 +16,12 @@ use std::alloc::Global;
 use std::marker::Model;
 use wire_bcs::{OutOfMemory, Seq};
 
-/// A statement of a member.
+/// A statement of a member, and if it is a vote the seal that the member put on it.
 #[derive(Debug, Drop)]
 pub(crate) struct SaidRow {
     member: u32,
     statement: Statement,
+    seal: Option<Digest>,
 }
 
 /// Puts an item after the others; there is room.
@@ -64,6 +65,16 @@ fn effects_in(statement: &Statement) -> Option<&Digest>
     }
 }
 
+/// The seal, if the statement is a vote. Takes no memory.
+fn kept_seal(statement: &Statement, seal: Digest) -> Option<Digest>
+    ensures { result ≡ kept_seal statement.now seal }
+{
+    match statement {
+        Statement::Vote { .. } => Some(seal),
+        Statement::End { .. } | Statement::Checkpoint { .. } | Statement::Ack { .. } => None,
+    }
+}
+
 /// The statement of the row at a place. Takes no memory.
 fn statement_at(rows: &[SaidRow], place: Option<usize>) -> Option<&Statement>
     ensures { option_copied result ≡ option_map row_statement (option_and_then (slice_get rows.now) place) }
@@ -98,6 +109,19 @@ fn effects_at(rows: &[SaidRow], place: Option<usize>) -> Option<&Digest>
     effects_in(statement_at(rows, place)?)
 }
 
+/// The seal that was kept with the statement at a place. Takes no memory.
+fn seal_at(rows: &[SaidRow], place: Option<usize>) -> Option<Digest>
+    ensures { result ≡ option_and_then the_seal (option_and_then row_seal (option_and_then (slice_get rows.now) place)) }
+{
+    match place {
+        Some(place) => match rows.get(place) {
+            Some(row) => row.seal,
+            None => None,
+        },
+        None => None,
+    }
+}
+
 /// The statements of a run. Contracts see them with their members, oldest first.
 #[derive(Drop)]
 pub struct SaidBook {
@@ -129,16 +153,50 @@ impl SaidBook {
         }
     }
 
-    /// A member states this. A refusal changes nothing.
-    pub fn say(&mut self, member: u32, statement: Statement) -> Result<(), OutOfMemory>
-        ensures ok { OnOk result (self.new ≡ self.old ++ said_by member statement ∷ []) }
+    /// Adds a statement, and the seal that is kept of it. A refusal changes nothing.
+    fn add(
+        &mut self,
+        member: u32,
+        statement: Statement,
+        seal: Option<Digest>,
+    ) -> Result<(), OutOfMemory>
+        ensures ok { OnOk result (self.new ≡ self.old ++ said_with member statement seal ∷ []) }
         ensures err { OnErr result (self.new ≡ self.old) }
     {
         self.rows.reserve(1)?;
         let place = self.rows.as_slice().len();
         self.places.note(member, &statement, place)?;
-        push_in_room(&mut self.rows, SaidRow { member, statement });
+        push_in_room(
+            &mut self.rows,
+            SaidRow {
+                member,
+                statement,
+                seal,
+            },
+        );
         Ok(())
+    }
+
+    /// A member states this, which is not a vote. A refusal changes nothing.
+    pub fn say(&mut self, member: u32, statement: Statement) -> Result<(), OutOfMemory>
+        ensures ok { OnOk result (self.new ≡ self.old ++ said_by member statement ∷ []) }
+        ensures err { OnErr result (self.new ≡ self.old) }
+    {
+        self.add(member, statement, None)
+    }
+
+    /// A member states this under its seal, which is kept if it is a vote. A refusal changes nothing.
+    pub fn say_sealed(
+        &mut self,
+        member: u32,
+        statement: Statement,
+        seal: Digest,
+    ) -> Result<(), OutOfMemory>
+        ensures ok { OnOk result (self.new ≡ self.old ++ said_under seal member statement ∷ []) }
+        ensures err { OnErr result (self.new ≡ self.old) }
+    {
+        let seal = kept_seal(&statement, seal);
+        self.add(member, statement, seal)
     }
 
     /// A member states a checkpoint that it built. A refusal changes nothing.
@@ -188,6 +246,14 @@ impl SaidBook {
         ensures { option_copied result ≡ vote_by self.now epoch tx.now member }
     {
         self.vote_of(member as u64, epoch, tx)
+    }
+
+    /// The seal that the member put on its last vote for the transaction of the epoch. Takes no memory.
+    pub(crate) fn last_seal(&self, member: u32, epoch: u64, tx: &Digest) -> Option<Digest>
+        ensures { result ≡ last_seal epoch tx.now member self.now }
+    {
+        let place = self.places.vote(member as u64, epoch, tx);
+        seal_at(self.rows.as_slice(), place)
     }
 
     /// The epoch of the member's last End; none exactly if it stated none. Takes no memory.

@@ -1,8 +1,7 @@
-//! What the books and the sealer give is what the definitions say of a world.
+//! What the books give is what the definitions say of a world.
 
-ghost use Rattle.std.specs.Prelude.{◌≡◌, ℕ, List, Option, bytes_eq, option_map};
+ghost use Rattle.std.specs.Prelude.{◌≡◌, ℕ, List, bytes_eq, option_map};
 ghost use Rattle.std.specs.List.{enumerate_from};
-ghost use Rattle.digest_core.specs.declared.Digest.{Digest};
 ghost use Rattle.chain_types.specs.Equal.{digest_eq};
 ghost use Rattle.protocol_spec.specs.Chain.Collecting.{collected};
 ghost use Rattle.protocol_spec.specs.Chain.Tests.{origins_eq};
@@ -11,17 +10,14 @@ ghost use Rattle.world_spec.specs.Setting.{Name, Setting};
 ghost use Rattle.world_spec.specs.World.{Formed, Made, World};
 ghost use Rattle.world_spec.specs.Names.{cert_in, cert_named};
 ghost use Rattle.world_spec.specs.Report.{acks_collected};
-ghost use Rattle.world_spec.specs.Step.{ack_in, certificate_of, honest_vote, last_said, vote_in, votes_collected};
-ghost use Rattle.world_lines.specs.Forming.{certificate_by};
+ghost use Rattle.world_spec.specs.Step.{ack_in, honest_vote, last_said, vote_in, votes_collected};
 ghost use Rattle.world_lines.specs.SaidVotes.{first_vote, flags_of};
 
-/// If the lists of a world are those of the books, and the seals are its setting's: the first honest vote, what
-/// collecting votes and acknowledgements gives, the last certificate of a name, and the certificate of votes are the
-/// definition's.
+/// If the lists of a world are those of the books: the first honest vote, what collecting votes and acknowledgements
+/// gives, and the last certificate of a name are the definition's.
 pub fn said_in_a_world()
     ensures first { (w : World) (t : Made) → first_of (honest_vote w t) (enumerate_from 0 w.seats) ≡ first_vote w.said t.signed.tx.epoch t.digest (flags_of w.seats) }
     ensures votes { (s : Setting) (w : World) (t : Made) (ms : List ℕ) → votes_collected s w t ms ≡ collected origins_eq s.rules.stakes (λ m. last_said (vote_in t.signed.tx.epoch t.digest) m w.said) ms }
     ensures acks { (s : Setting) (w : World) (t : Made) (ms : List ℕ) → acks_collected s w t ms ≡ collected digest_eq s.rules.stakes (λ m. last_said (ack_in t.signed.tx.epoch t.digest) m w.said) ms }
     ensures named { (w : World) (name : Name) → cert_named w name ≡ option_map cert_in (last_where (λ (f : Formed). bytes_eq f.name name) w.certs) }
-    ensures cert { (s : Setting) (t : Made) (origins : List (Option Digest)) (ms : List ℕ) → certificate_of s t origins ms ≡ certificate_by s.seal t origins ms }
 {}

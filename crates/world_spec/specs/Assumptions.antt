@@ -25,7 +25,7 @@ use Rattle.protocol_spec.specs.Chain.Committee.{weight, weight_of, total_of, is_
 use Rattle.protocol_spec.specs.Chain.Certificates.{Rules, accepts_statement, read_signed, read_certificate, read_entry, vote_of, cert_refusal}
 use Rattle.protocol_spec.specs.Member.Calls.{Call, votes, holds, sees, runs, closes, ends, turns, acks}
 use Rattle.world_spec.specs.Setting.{Setting}
-use Rattle.world_spec.specs.World.{Made, Formed, World, new_world, said_by, called_if, is_honest, member_at, next_call}
+use Rattle.world_spec.specs.World.{Made, Formed, World, new_world, called_if, is_honest, member_at, next_call}
 use Rattle.world_spec.specs.Names.{made_named, cert_named, draws}
 use Rattle.world_spec.specs.Step.{happens, entries_left}
 use Rattle.world_spec.specs.Run.{world_after}
@@ -170,9 +170,13 @@ is_faulty_in honest m = is_faulty_one (slice_get honest m)
 abbrev pub FewFaulty : Setting → Type 0
 FewFaulty s = 3 * weight_of s.rules.stakes (is_faulty_in s.honest) < total_of s.rules.stakes
 
+-- a member made this statement, whichever seal was kept of it
+abbrev pub HasSaid : World → ℕ → Statement → Type 0
+HasSaid w m st = (seal : Option Digest) × Has w.said (record { member = m; statement = st; seal = seal })
+
 -- the statement is made before, if the seal is an honest member's and accepted
 abbrev pub IsStated : Setting → World → ℕ → Statement → Digest → Type 0
-IsStated s w m st seal = is_honest w m ≡ true → accepts_statement s.rules m st seal ≡ true → Has w.said (said_by m st)
+IsStated s w m st seal = is_honest w m ≡ true → accepts_statement s.rules m st seal ≡ true → HasSaid w m st
 
 abbrev pub IsUnforged : Setting → World → Certificate → Type 0
 IsUnforged s w c = Each (λ (x : MemberSeal). IsStated s w x.member (vote_of c) x.seal) c.seals
@@ -212,4 +216,4 @@ pub record IsHonestRun (s : Setting) (events : List Event) : Type 0 where
 pub record IsFinal (s : Setting) (w : World) (epoch : ℕ) (tx effects : Digest) (members : List ℕ) : Type 0 where
   pub known : is_roll s.rules.stakes members ≡ true
   pub quorum : is_quorum s.rules.stakes (weight s.rules.stakes members) ≡ true
-  pub said : Each (λ m. Has w.said (said_by m (statement.Ack epoch tx effects))) members
+  pub said : Each (λ m. HasSaid w m (statement.Ack epoch tx effects)) members

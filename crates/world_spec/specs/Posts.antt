@@ -1,6 +1,8 @@
 -- The members of a committee as they stand: a member that is up stands with its state. What a call does to one.
 -- Source: this profile.
 use Rattle.std.specs.Prelude.{◌≡◌, ◌⊎◌, ⊤, ℕ, suc, Bool, true, false, List, [], ◌∷◌, ◌++◌, fold, Option, Some, None, option_map, is_some, slice_get, slice_set}
+use Rattle.digest_core.specs.declared.Digest.{Digest}
+use Rattle.quorum_core.specs.declared.signer.Signer.{Signer}
 use Rattle.chain_types.specs.declared.objects.Object.{Object}
 use Rattle.chain_messages.specs.declared.messages.Statement.{Statement}
 use Rattle.journal_core.specs.declared.records.Record.{Record}
@@ -48,14 +50,15 @@ post_acts r p (halts kept x) = record p { standing = None; armed = None }
 post_acts r p (arms kept) = record p { armed = Some kept }
 post_acts r p starts = p
 
-abbrev pub by_posts : Rules → Seating Post
-by_posts r = record {
+abbrev pub by_posts : (Signer → List ℕ → Digest) → Rules → Seating Post
+by_posts seal r = record {
   honest = λ p. p.honest;
   up = λ p. is_some p.standing;
   armed = λ p. p.armed;
   state = λ p. state_or p.standing;
   count = λ p. (state_or p.standing).records;
   acts = post_acts r;
+  seal = seal;
 }
 
 -- ---- what becomes of a call

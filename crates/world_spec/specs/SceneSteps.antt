@@ -2,6 +2,7 @@
 -- Source: this profile.
 use Rattle.std.specs.Prelude.{ℕ, zero, suc, min, Bool, false, List, [], ◌∷◌, ◌++◌, map, length, slice_get, Option, Some, None, option_and_then, option_map, if◌then◌else◌}
 use Rattle.digest_core.specs.declared.Digest.{Digest}
+use Rattle.quorum_core.specs.declared.signer.Signer.{Signer}
 use Rattle.chain_types.specs.declared.objects.ObjectKey.{ObjectKey}
 use Rattle.chain_types.specs.Transactions as transactions
 use Rattle.chain_messages.specs.declared.messages.Certificate.{Certificate}
@@ -28,7 +29,7 @@ use Rattle.report_text.specs.declared.lines.VoteText.TheVariants as vote_text
 use Rattle.protocol_spec.specs.Member.Member.{Fork, Member, fork_of, live_objects}
 use Rattle.protocol_spec.specs.Member.Calls.{Call, votes, holds, sees, runs, closes, ends, turns, acks}
 use Rattle.world_spec.specs.Setting.{Name, Trust}
-use Rattle.world_spec.specs.World.{Made, Reached, World, is_honest, next_call_of, said_by}
+use Rattle.world_spec.specs.World.{Made, Reached, World, is_honest, next_call_of, said_by, sealed_by}
 use Rattle.world_spec.specs.Names.{made_named, cert_named, tx_name}
 use Rattle.world_spec.specs.Making.{TxLine, digest_or_zero, held_digest, spoiled_if}
 use Rattle.world_spec.specs.Step.{appended_entry, end_ordered, entries_left, executed_digest, formed, fvoted, open_entries, ordered}
@@ -58,11 +59,23 @@ with_tx trust sc l = record sc { known = with_line sc.known l (made_in trust sc 
 
 -- ---- calls
 
+-- after a call that asks for no vote
 abbrev pub called_scene : Rules → Scene → ℕ → Call → Scene
 called_scene r sc m call = record sc {
   posts = posts_behind r sc.posts m call;
   said = sc.said ++ map (said_by m) (stated_in r call (reached_in r sc.posts m call));
 }
+
+-- after a member was asked for its vote, which it gives under its seal
+abbrev pub voted_scene : (Signer → List ℕ → Digest) → Rules → Scene → ℕ → List ℕ → Scene
+voted_scene seal r sc m bytes = record sc {
+  posts = posts_behind r sc.posts m (votes bytes);
+  said = sc.said ++ map (sealed_by seal m) (stated_in r (votes bytes) (reached_in r sc.posts m (votes bytes)));
+}
+
+abbrev pub voted_in : (Signer → List ℕ → Digest) → Rules → Scene → ℕ → Option Made → Scene
+voted_in seal r sc m None = sc
+voted_in seal r sc m (Some t) = voted_scene seal r sc m (transactions.signed.spell t.signed)
 
 abbrev pub signed_call : Made → Call
 signed_call t = votes (transactions.signed.spell t.signed)
@@ -188,8 +201,8 @@ acked_in r sc m spoiled (Some t) = if is_honest (bare_world sc) m then called_sc
 unfoldable pub steps_to : Trust → Scene → Event → Scene
 steps_to trust sc (event.Tx name sender spoiled epoch gas budget inputs commands) =
     with_tx trust sc (record { name = name; sender = sender; spoiled = spoiled; epoch = epoch; gas = gas; budget = budget; inputs = inputs; commands = commands })
-steps_to trust sc (event.Vote m tx) = worked (rules_in trust.accepts sc) sc (work_of sc (event.Vote m tx))
-steps_to trust sc (event.Fvote m tx origins) = record sc { said = (fvoted (bare_world sc) m origins (made_named (bare_world sc) tx)).said }
+steps_to trust sc (event.Vote m tx) = voted_in trust.seal (rules_in trust.accepts sc) sc m (made_named (bare_world sc) tx)
+steps_to trust sc (event.Fvote m tx origins) = record sc { said = (fvoted (bare_setting trust sc) (bare_world sc) m origins (made_named (bare_world sc) tx)).said }
 steps_to trust sc (event.Cert tx members) = record sc { certs = (formed (bare_setting trust sc) (bare_world sc) members (made_named (bare_world sc) tx)).certs }
 steps_to trust sc (event.Send m tx) = worked (rules_in trust.accepts sc) sc (work_of sc (event.Send m tx))
 steps_to trust sc (event.Order tx) = with_order sc (ordered (bare_world sc) (cert_named (bare_world sc) tx))
@@ -203,7 +216,7 @@ steps_to trust sc (event.Turn m) = called_scene (rules_in trust.accepts sc) sc m
 steps_to trust sc (event.Show m) = sc
 steps_to trust sc (event.Stop m kept) = record sc { posts = armed_at sc.posts m kept }
 steps_to trust sc (event.Restart m) = sc
-steps_to trust sc (event.RawVote m bytes) = called_scene (rules_in trust.accepts sc) sc m (votes bytes)
+steps_to trust sc (event.RawVote m bytes) = voted_scene trust.seal (rules_in trust.accepts sc) sc m bytes
 steps_to trust sc (event.RawHold m bytes) = called_scene (rules_in trust.accepts sc) sc m (holds bytes)
 steps_to trust sc (event.Ack m tx spoiled) = acked_in (rules_in trust.accepts sc) sc m spoiled (made_named (bare_world sc) tx)
 steps_to trust sc (event.Final tx members) = sc

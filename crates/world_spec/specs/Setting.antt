@@ -134,9 +134,13 @@ setting_of trust lines = record {
   seal = trust.seal;
 }
 
+-- a member's seal on a statement, if seals are made so
+abbrev pub seal_of_member : (Signer → List ℕ → Digest) → ℕ → Statement → Digest
+seal_of_member seal m st = seal (signers.Member m) (messages.statement.spell st)
+
 -- a member's seal on a statement, and a sender's on its transaction
 abbrev pub member_seal : Setting → ℕ → Statement → Digest
-member_seal s m st = s.seal (signers.Member m) (messages.statement.spell st)
+member_seal s m st = seal_of_member s.seal m st
 
 abbrev pub sender_seal : Setting → Transaction → Digest
 sender_seal s t = s.seal (signers.User t.sender.0) (transactions.transaction.spell t)

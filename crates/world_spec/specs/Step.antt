@@ -1,7 +1,8 @@
 -- One line of a schedule, as a step of the world. Source: this profile.
-use Rattle.std.specs.Prelude.{ℕ, ◌+◌, ◌-◌, min, Bool, true, false, ◌&&◌, ◌==◌, List, [], ◌∷◌, ◌++◌, map, length, slice_get, slice_set, Option, Some, None, option_map, if◌then◌else◌}
+use Rattle.std.specs.Prelude.{ℕ, ◌+◌, ◌-◌, min, Bool, true, false, ◌&&◌, ◌==◌, List, [], ◌∷◌, ◌++◌, map, length, slice_get, slice_set, Option, Some, None, option_map, option_and_then, if◌then◌else◌}
 use Rattle.std.specs.List.{enumerate_from}
 use Rattle.digest_core.specs.declared.Digest.{Digest}
+use Rattle.quorum_core.specs.declared.signer.Signer.{Signer}
 use Rattle.chain_types.specs.declared.transactions.Transaction.{Transaction}
 use Rattle.chain_messages.specs.declared.messages.Statement.{Statement}
 use Rattle.chain_messages.specs.declared.messages.Statement.TheVariants as statement
@@ -25,7 +26,7 @@ use Rattle.protocol_spec.specs.Member.Sequence.{seen}
 use Rattle.protocol_spec.specs.Member.Member.{Member}
 use Rattle.protocol_spec.specs.Member.Calls.{votes, holds, runs, closes, ends, turns, acks}
 use Rattle.world_spec.specs.Setting.{Name, Setting, member_seal}
-use Rattle.world_spec.specs.World.{Seat, Said, Made, World, WorldOf, Seating, arms, starts, said_by, with_seat, called_over, honest_in, seat_honest, member_over, says_over, by_records, entries_at, sees_over, list_or_none}
+use Rattle.world_spec.specs.World.{Seat, Said, Made, World, WorldOf, Seating, arms, starts, sealed_by, with_seat, called_over, honest_in, seat_honest, member_over, says_over, by_records, entries_at, sees_over, list_or_none}
 use Rattle.world_spec.specs.Names.{made_named, cert_named}
 use Rattle.world_spec.specs.Making.{made_over, digest_named, spoiled_if, digest_or_zero}
 
@@ -50,16 +51,34 @@ ack_in epoch tx (statement.End e) = None
 ack_in epoch tx (statement.Checkpoint e number digest) = None
 ack_in epoch tx (statement.Ack e t effects) = where_true ((e == epoch) && digest_eq t tx) effects
 
-abbrev pub says_of : {A : Type 0} → (Statement → Option A) → ℕ → Said → Option A
-says_of reads m x = if x.member == m then reads x.statement else None
+-- the seal of a vote for a transaction of an epoch, if it was kept
+abbrev pub seal_in : ℕ → Digest → Said → Option (Option Digest)
+seal_in epoch tx x = option_map (λ _. x.seal) (vote_in epoch tx x.statement)
+
+abbrev pub says_of : {A : Type 0} → (Said → Option A) → ℕ → Said → Option A
+says_of reads m x = if x.member == m then reads x else None
+
+-- what is read last of a member's statements
+abbrev pub last_read : {A : Type 0} → (Said → Option A) → ℕ → List Said → Option A
+last_read reads m [] = None
+last_read reads m (x ∷ xs) = first_some (last_read reads m xs ∷ says_of reads m x ∷ [])
+
+abbrev pub of_statement : {A : Type 0} → (Statement → Option A) → Said → Option A
+of_statement reads x = reads x.statement
 
 -- what a member stated last of something
 abbrev pub last_said : {A : Type 0} → (Statement → Option A) → ℕ → List Said → Option A
-last_said reads m [] = None
-last_said reads m (x ∷ xs) = first_some (last_said reads m xs ∷ says_of reads m x ∷ [])
+last_said reads m said = last_read (of_statement reads) m said
 
-abbrev pub says : {S : Type 0} → WorldOf S → ℕ → Statement → WorldOf S
-says w m st = record w { said = w.said ++ said_by m st ∷ [] }
+abbrev pub the_seal : Option Digest → Option Digest
+the_seal seal = seal
+
+-- the seal that a member put on its last vote for a transaction of an epoch
+abbrev pub last_seal : ℕ → Digest → ℕ → List Said → Option Digest
+last_seal epoch tx m said = option_and_then the_seal (last_read (seal_in epoch tx) m said)
+
+abbrev pub says : {S : Type 0} → (Signer → List ℕ → Digest) → WorldOf S → ℕ → Statement → WorldOf S
+says seal w m st = record w { said = w.said ++ sealed_by seal m st ∷ [] }
 
 -- ---- fvote
 
@@ -89,12 +108,13 @@ origins_by honest w t (word ∷ words) = map (origin_word w) (word ∷ words)
 abbrev pub fvote_origins : World → Made → List (Option Name) → List (Option Digest)
 fvote_origins w t words = origins_by seat_honest w t words
 
-abbrev pub fvoted_by : {S : Type 0} → (S → Bool) → WorldOf S → ℕ → List (Option Name) → Option Made → WorldOf S
-fvoted_by honest w m words None = w
-fvoted_by honest w m words (Some t) = if honest_in honest w m then w else says w m (statement.Vote t.signed.tx.epoch t.digest (origins_by honest w t words))
+-- a faulty member votes, under its seal
+abbrev pub fvoted_by : {S : Type 0} → (S → Bool) → Setting → WorldOf S → ℕ → List (Option Name) → Option Made → WorldOf S
+fvoted_by honest s w m words None = w
+fvoted_by honest s w m words (Some t) = if honest_in honest w m then w else says s.seal w m (statement.Vote t.signed.tx.epoch t.digest (origins_by honest w t words))
 
-abbrev pub fvoted : World → ℕ → List (Option Name) → Option Made → World
-fvoted w m words t = fvoted_by seat_honest w m words t
+abbrev pub fvoted : Setting → World → ℕ → List (Option Name) → Option Made → World
+fvoted s w m words t = fvoted_by seat_honest s w m words t
 
 -- ---- cert
 
@@ -109,23 +129,23 @@ first_origins w t (m ∷ ms) = list_or_none (last_said (vote_in t.signed.tx.epoc
 abbrev pub vote_statement : Transaction → Digest → List (Option Digest) → Statement
 vote_statement t tx origins = statement.Vote t.epoch tx origins
 
--- a member's seal on what it stated
-abbrev pub sealed_by : Setting → Statement → ℕ → MemberSeal
-sealed_by s st m = record { member = m; seal = member_seal s m st }
+-- the seal that a member put on its last vote for a transaction; zeros without such a vote
+abbrev pub collected_seal : List Said → Made → ℕ → MemberSeal
+collected_seal said t m = record { member = m; seal = digest_or_zero (last_seal t.signed.tx.epoch t.digest m said) }
 
--- the certificate of these members' votes, which are all one statement, with the seal that each of them made on it
-abbrev pub certificate_of : Setting → Made → List (Option Digest) → List ℕ → Certificate
-certificate_of s t origins ms = record { tx = t.signed.tx; origins = origins; seals = map (sealed_by s (vote_statement t.signed.tx t.digest origins)) ms }
+-- the certificate of these members' votes, which are all one statement, with the seal that each of them put on it
+abbrev pub certificate_of : List Said → Made → List (Option Digest) → List ℕ → Certificate
+certificate_of said t origins ms = record { tx = t.signed.tx; origins = origins; seals = map (collected_seal said t) ms }
 
-abbrev pub formed_as : {S : Type 0} → Setting → WorldOf S → Made → List ℕ → Collected → WorldOf S
-formed_as s w t ms (lacks m) = w
-formed_as s w t ms (short weight total) = w
-formed_as s w t ms (differ a b) = w
-formed_as s w t ms whole = record w { certs = w.certs ++ record { name = t.name; cert = certificate_of s t (first_origins w t ms) ms } ∷ [] }
+abbrev pub formed_as : {S : Type 0} → WorldOf S → Made → List ℕ → Collected → WorldOf S
+formed_as w t ms (lacks m) = w
+formed_as w t ms (short weight total) = w
+formed_as w t ms (differ a b) = w
+formed_as w t ms whole = record w { certs = w.certs ++ record { name = t.name; cert = certificate_of w.said t (first_origins w t ms) ms } ∷ [] }
 
 abbrev pub formed : {S : Type 0} → Setting → WorldOf S → List ℕ → Option Made → WorldOf S
 formed s w ms None = w
-formed s w ms (Some t) = formed_as s w t ms (votes_collected s w t ms)
+formed s w ms (Some t) = formed_as w t ms (votes_collected s w t ms)
 
 -- ---- order
 
@@ -167,7 +187,7 @@ honest_end s w m (Some epoch) = if epoch == w.epoch then ordered_end s w m epoch
 abbrev pub end_by : {S : Type 0} → (S → Bool) → Setting → WorldOf S → ℕ → WorldOf S
 end_by honest s w m =
     if honest_in honest w m then honest_end s w m (last_said end_in m w.said)
-    else ordered_end s (says w m (statement.End w.epoch)) m w.epoch
+    else ordered_end s (says s.seal w m (statement.End w.epoch)) m w.epoch
 
 abbrev pub end_ordered : Setting → World → ℕ → World
 end_ordered s w m = end_by seat_honest s w m
@@ -203,7 +223,7 @@ false_ack s w t spoiled = false_ack_over (by_records s) w t spoiled
 
 abbrev pub acked_over : {S : Type 0} → Seating S → Rules → WorldOf S → ℕ → Bool → Option Made → WorldOf S
 acked_over k r w m spoiled None = w
-acked_over k r w m spoiled (Some t) = if honest_in k.honest w m then called_over k r w m (acks t.digest) else says w m (false_ack_over k w t spoiled)
+acked_over k r w m spoiled (Some t) = if honest_in k.honest w m then called_over k r w m (acks t.digest) else says k.seal w m (false_ack_over k w t spoiled)
 
 abbrev pub acked : Setting → World → ℕ → Bool → Option Made → World
 acked s w m spoiled t = acked_over (by_records s) s.rules w m spoiled t
@@ -229,7 +249,7 @@ unfoldable pub happens_over : {S : Type 0} → Seating S → Setting → WorldOf
 happens_over k s w (event.Tx name sender spoiled epoch gas budget inputs commands) =
     made_over k s w (record { name = name; sender = sender; spoiled = spoiled; epoch = epoch; gas = gas; budget = budget; inputs = inputs; commands = commands })
 happens_over k s w (event.Vote m tx) = voted_over k s.rules w m (made_named w tx)
-happens_over k s w (event.Fvote m tx origins) = fvoted_by k.honest w m origins (made_named w tx)
+happens_over k s w (event.Fvote m tx origins) = fvoted_by k.honest s w m origins (made_named w tx)
 happens_over k s w (event.Cert tx members) = formed s w members (made_named w tx)
 happens_over k s w (event.Send m tx) = sent_over k s.rules w m (cert_named w tx)
 happens_over k s w (event.Order tx) = ordered w (cert_named w tx)

@@ -2,6 +2,7 @@
 -- one consensus sequence for each epoch is the premise of the Sui Lutris paper.
 use Rattle.std.specs.Prelude.{ℕ, zero, suc, Bool, true, false, ◌&&◌, List, [], ◌∷◌, ◌++◌, map, length, slice_get, slice_set, Option, Some, None, option_map, option_and_then, Result, Ok, Err, if◌then◌else◌}
 use Rattle.digest_core.specs.declared.Digest.{Digest}
+use Rattle.quorum_core.specs.declared.signer.Signer.{Signer}
 use Rattle.chain_types.specs.declared.objects.ObjectId.{ObjectId}
 use Rattle.chain_types.specs.declared.transactions.SignedTx.{SignedTx}
 use Rattle.chain_messages.specs.declared.messages.Statement.{Statement}
@@ -21,7 +22,7 @@ use Rattle.protocol_spec.specs.Chain.Words.{first_some}
 use Rattle.protocol_spec.specs.Chain.Certificates.{Rules}
 use Rattle.protocol_spec.specs.Member.Member.{Member, state}
 use Rattle.protocol_spec.specs.Member.Calls.{Call, votes, holds, sees, runs, closes, ends, turns, acks, Voted, due, vote_answer, see_answer, run_answer, end_answer, ack_answer}
-use Rattle.world_spec.specs.Setting.{Name, User, Setting}
+use Rattle.world_spec.specs.Setting.{Name, User, Setting, seal_of_member}
 
 -- a member: whether it is honest, its records, whether it is up, and an armed stop, which keeps the record or loses it
 pub record Seat : Type 0 where
@@ -30,10 +31,11 @@ pub record Seat : Type 0 where
   pub up : Bool
   pub armed : Option Bool
 
--- a statement that a member made
+-- a statement that a member made, and if it is a vote the seal that the member put on it
 pub record Said : Type 0 where
   pub member : ℕ
   pub statement : Statement
+  pub seal : Option Digest
 
 -- a transaction by the name of its line
 pub record Made : Type 0 where
@@ -86,7 +88,7 @@ pub data Deed : Type 0 where
   starts : Deed
 
 -- what stands in a seat: whether the member is honest and up, its armed stop, its state and the number of its records,
--- and how a deed changes it
+-- and how a deed changes it; and how members make seals
 pub record Seating (S : Type 0) : Type 0 where
   pub honest : S → Bool
   pub up : S → Bool
@@ -94,6 +96,7 @@ pub record Seating (S : Type 0) : Type 0 where
   pub state : S → Member
   pub count : S → ℕ
   pub acts : S → Deed → S
+  pub seal : Signer → List ℕ → Digest
 
 abbrev pub new_seat : Bool → Seat
 new_seat honest = record { honest = honest; records = []; up = true; armed = None }
@@ -168,8 +171,23 @@ reached_where k r call (Some seat) = reached_by k r call seat
 unfoldable pub reached_over : {S : Type 0} → Seating S → Rules → WorldOf S → ℕ → Call → Reached
 reached_over k r w m call = reached_where k r call (slice_get w.seats m)
 
+-- votes are collected with their seals; of other statements the seal is not kept
+abbrev pub kept_seal : Statement → Digest → Option Digest
+kept_seal (statement.Vote epoch tx origins) seal = Some seal
+kept_seal (statement.End epoch) seal = None
+kept_seal (statement.Checkpoint epoch number digest) seal = None
+kept_seal (statement.Ack epoch tx effects) seal = None
+
+-- a statement under this seal, and one that is not a vote
+abbrev pub said_under : Digest → ℕ → Statement → Said
+said_under seal m st = record { member = m; statement = st; seal = kept_seal st seal }
+
 abbrev pub said_by : ℕ → Statement → Said
-said_by m st = record { member = m; statement = st }
+said_by m st = record { member = m; statement = st; seal = None }
+
+-- a statement under its member's seal, if seals are made so
+abbrev pub sealed_by : (Signer → List ℕ → Digest) → ℕ → Statement → Said
+sealed_by seal m st = said_under (seal_of_member seal m st) m st
 
 abbrev pub appended : List Record → Option Record → List Record
 appended records None = records
@@ -186,7 +204,7 @@ abbrev pub behind_over : {S : Type 0} → Seating S → Rules → WorldOf S → 
 behind_over k r w m call seat finds_down = w
 behind_over k r w m call seat (stops kept x) = with_seat w m (k.acts seat (halts kept x))
 behind_over k r w m call seat (answers before x) =
-    record (with_seat w m (k.acts seat (keeps x))) { said = w.said ++ map (said_by m) (stated r before call) }
+    record (with_seat w m (k.acts seat (keeps x))) { said = w.said ++ map (sealed_by k.seal m) (stated r before call) }
 
 abbrev pub called_where : {S : Type 0} → Seating S → Rules → WorldOf S → ℕ → Call → Option S → WorldOf S
 called_where k r w m call None = w
@@ -217,7 +235,7 @@ acts_on seat (arms kept) = armed_seat kept seat
 acts_on seat starts = started_seat seat
 
 abbrev pub by_records : Setting → Seating Seat
-by_records s = record { honest = seat_honest; up = seat_up; armed = λ seat. seat.armed; state = member_in s; count = λ seat. length seat.records; acts = acts_on }
+by_records s = record { honest = seat_honest; up = seat_up; armed = λ seat. seat.armed; state = member_in s; count = λ seat. length seat.records; acts = acts_on; seal = s.seal }
 
 abbrev pub reached_seat : Setting → Call → Seat → Reached
 reached_seat s call seat = reached_by (by_records s) s.rules call seat

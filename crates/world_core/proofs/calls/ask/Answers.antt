@@ -9,7 +9,7 @@ use Rattle.world_core.proofs.calls.ask.Goals as goal
 
 pub returns-in-Ok-tell_vote-clause-said : goal.returns-in-Ok-tell_vote-clause-said
 returns-in-Ok-tell_vote-clause-said g c =
-    vote_states (rules_for c.args.seats.now.terms (g.S.Checker.accepts c.args.sealer.now)) (g.S.Checker.accepts c.args.sealer.now) c.args.member c.args.bytes.now c.args.said.now c.tell_vote.new.said
+    vote_states (rules_for c.args.seats.now.terms (g.S.Checker.accepts c.args.sealer.now)) (g.S.Checker.accepts c.args.sealer.now) (g.S.MakesSeals.made c.args.sealer.now) (g.met.S.MakesSeals.exact c.args.sealer.now) c.args.member c.args.bytes.now c.args.said.now c.tell_vote.new.said
     (reached_in (rules_for c.args.seats.now.terms (g.S.Checker.accepts c.args.sealer.now)) c.args.seats.now.posts c.args.member (votes c.args.bytes.now)) c.in-Answered.answer
     (subst (λ x. Replies (SaysVote (rules_for c.args.seats.now.terms (g.S.Checker.accepts c.args.sealer.now)) (g.S.Checker.accepts c.args.sealer.now) c.args.member c.args.bytes.now) (reached_in (rules_for c.args.seats.now.terms (g.S.Checker.accepts c.args.sealer.now)) c.args.seats.now.posts c.args.member (votes c.args.bytes.now)) x) c.in-Answered.is c.in-Ok.ensures.answer)
     c.in-Ok-tell_vote.ensures.said

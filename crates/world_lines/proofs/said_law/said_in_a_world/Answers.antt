@@ -6,4 +6,4 @@ use Rattle.world_lines.proofs.said_law.said_in_a_world.Goals as goal
 
 pub returns : goal.returns
 unfolding votes_collected acks_collected
-returns c = record { first = λ w t. first_from w t 0 w.seats; votes = λ _ _ _ _. refl; acks = λ _ _ _ _. refl; named = λ _ _. refl; cert = λ _ _ _ _. refl }
+returns c = record { first = λ w t. first_from w t 0 w.seats; votes = λ _ _ _ _. refl; acks = λ _ _ _ _. refl; named = λ _ _. refl }

@@ -1,7 +1,7 @@
 use Rattle.protocol_spec.specs.Member.Calls.{votes}
 use Rattle.world_spec.specs.Scene.{rules_in, Scene}
-use Rattle.world_spec.specs.SceneSteps.{asks, work_of, called_scene, steps_to}
-use Rattle.world_core.proofs.Cuts.{scene_ended_on}
+use Rattle.world_spec.specs.SceneSteps.{asks, work_of, voted_scene, steps_to}
+use Rattle.world_core.proofs.Cuts.{call_ended_on}
 use Rattle.std.proofs.Common.{List, OnErr, subst, ℕ, ◌∙◌, ap}
 use Rattle.world_core.specs.Cuts.{LineCut}
 use Rattle.world_core.specs.Trusts.{trust_by}
@@ -18,7 +18,7 @@ pub returns-clause-cut : goal.returns-clause-cut
 unfolding work_of
 returns-clause-cut g c =
     subst (λ (b : List ℕ). OnErr c.told.result (LineCut (rules_in (g.S.Checker.accepts c.args.sealer.now) c.args.self.now) c.args.self.now (asks c.args.member (votes b)) c.ask.new.self.posts (g.D.Keeper.lists c.args.keeper.now) (g.D.Keeper.lists c.ask.new.keeper))) c.as_slice.ensures.value
-    (scene_ended_on (rules_in (g.S.Checker.accepts c.args.sealer.now) c.args.self.now) c.args.member (votes c.as_slice.result.now) c.args.self.now c.ask.new.self (g.D.Keeper.lists c.args.keeper.now) (g.D.Keeper.lists c.ask.new.keeper) c.told.result c.in-Ok.ensures.world c.in-Ok.ensures.kept)
+    (call_ended_on (rules_in (g.S.Checker.accepts c.args.sealer.now) c.args.self.now) c.args.member (votes c.as_slice.result.now) c.args.self.now.posts c.ask.new.self.posts (g.D.Keeper.lists c.args.keeper.now) (g.D.Keeper.lists c.ask.new.keeper) c.told.result (ap (λ (x : Scene). x.posts) c.in-Ok.ensures.world) c.in-Ok.ensures.kept)
 
 pub returns-in-Err-clause-books : goal.returns-in-Err-clause-books
 returns-in-Err-clause-books g c =
@@ -36,4 +36,4 @@ pub returns-clause-said : goal.returns-clause-said
 unfolding steps_to
 returns-clause-said g c =
     all_said_on (trust_by (g.S.MakesSeals.made c.args.sealer.now) (g.S.Checker.accepts c.args.sealer.now)) c.args.self.now (events.RawVote c.args.member c.args.bytes.now) c.ask.new.self.said c.told.result
-    (ap (λ (x : Scene). x.said) (c.in-Ok.ensures.world ∙ ap (λ (b : List ℕ). called_scene (rules_in (g.S.Checker.accepts c.args.sealer.now) c.args.self.now) c.args.self.now c.args.member (votes b)) c.as_slice.ensures.value))
+    (ap (λ (x : Scene). x.said) (c.in-Ok.ensures.world ∙ ap (λ (b : List ℕ). voted_scene (g.S.MakesSeals.made c.args.sealer.now) (rules_in (g.S.Checker.accepts c.args.sealer.now) c.args.self.now) c.args.self.now c.args.member b) c.as_slice.ensures.value))

@@ -32,7 +32,7 @@ returns-in-Err-clause-cut g c =
 pub returns-clause-cut : goal.returns-clause-cut
 unfolding work_of
 returns-clause-cut g c =
-    vote_line_on (rules_in (g.S.Checker.accepts c.args.sealer.now) c.args.self.now) c.args.self.now c.ask.new.self c.args.member (made_named (bare_world c.args.self.now) c.args.tx.now) c.as_slice-3.result.now (g.D.Keeper.lists c.args.keeper.now) (g.D.Keeper.lists c.ask.new.keeper) c.told-2.result
+    vote_line_on (g.S.MakesSeals.made c.args.sealer.now) (rules_in (g.S.Checker.accepts c.args.sealer.now) c.args.self.now) c.args.self.now c.ask.new.self c.args.member (made_named (bare_world c.args.self.now) c.args.tx.now) c.as_slice-3.result.now (g.D.Keeper.lists c.args.keeper.now) (g.D.Keeper.lists c.ask.new.keeper) c.told-2.result
     (let e : Some c.as_slice-3.result.now ≡ option_map spelled_tx (made_named (bare_world c.args.self.now) c.args.tx.now) = cc (c.as_slice-3.ensures.value, c.in-Some.is, c.in-Ok-spelled_tx.ensures, c.as_slice-2.ensures.value) in e)
     c.in-Ok-ask.ensures.world c.in-Ok-ask.ensures.kept
 
@@ -64,6 +64,6 @@ pub returns-clause-said : goal.returns-clause-said
 unfolding steps_to work_of
 returns-clause-said g c =
     all_said_on (trust_by (g.S.MakesSeals.made c.args.sealer.now) (g.S.Checker.accepts c.args.sealer.now)) c.args.self.now (events.Vote c.args.member c.args.tx.now) c.ask.new.self.said c.told-2.result
-    (ap (λ (x : Scene). x.said) (vote_some_world (rules_in (g.S.Checker.accepts c.args.sealer.now) c.args.self.now) c.args.self.now c.ask.new.self c.args.member (made_named (bare_world c.args.self.now) c.args.tx.now) c.as_slice-3.result.now
+    (ap (λ (x : Scene). x.said) (vote_some_world (g.S.MakesSeals.made c.args.sealer.now) (rules_in (g.S.Checker.accepts c.args.sealer.now) c.args.self.now) c.args.self.now c.ask.new.self c.args.member (made_named (bare_world c.args.self.now) c.args.tx.now) c.as_slice-3.result.now
     (let e : Some c.as_slice-3.result.now ≡ option_map spelled_tx (made_named (bare_world c.args.self.now) c.args.tx.now) = cc (c.as_slice-3.ensures.value, c.in-Some.is, c.in-Ok-spelled_tx.ensures, c.as_slice-2.ensures.value) in e)
     c.in-Ok-ask.ensures.world))
