@@ -8,19 +8,20 @@ use Rattle.chain_messages.specs.declared.messages.Certificate.{Certificate}
 use Rattle.chain_messages.specs.declared.messages.Entry.{Entry}
 use Rattle.journal_core.specs.declared.records.Record.{Record}
 use Rattle.schedule_text.specs.declared.words.Event.{Event}
-use Rattle.schedule_text.specs.declared.words.Event.TheVariants as event
 use Rattle.protocol_spec.proofs.ListLemmas.{each_as, each_at}
 use Rattle.protocol_spec.specs.Chain.Words.{Each}
 use Rattle.protocol_spec.specs.Member.Member.{Member, state}
 use Rattle.protocol_spec.specs.Member.Calls.{Call, votes, holds, sees, runs, closes, ends, turns, acks, due}
 use Rattle.world_spec.specs.Setting.{Setting}
-use Rattle.world_spec.specs.World.{Seat, Made, World, Reached, finds_down, stops, answers, new_world, member_in, state_of, reached_seat, stopped_seat, appended, behind, called_seat, called_in, called_if, sees_on, next_call_of, next_call, numbered_call, entries_at, member_at, called_over}
+use Rattle.world_spec.specs.World.{Seat, Made, World, Reached, finds_down, stops, answers, new_world, member_in, state_of, by_records, reached_seat, stopped_seat, appended, behind, called_seat, called_in, called_if, sees_on, next_call_of, next_call, numbered_call, entries_at, member_at, called_over}
 use Rattle.world_spec.specs.Names.{made_named, cert_named}
-use Rattle.world_spec.specs.Step.{happens, entries_left, happens_over}
+use Rattle.world_spec.specs.Moves.{Move, requests, delivers, claims, vote_named, hold_named, direct, claims_ack, move_of}
+use Rattle.world_spec.specs.Step.{happens, entries_left, moved, happens_over}
 use Rattle.world_spec.specs.Run.{run, world_after}
-use Rattle.world_spec.specs.Assumptions.{vote_call, send_call, ack_call, calls_of}
-use Rattle.safety_law.proofs.InWorld.{each-set, kept-line, new-seats, stopped-due, answered-due}
-use Rattle.safety_law.proofs.Growth.{Grown, grows-line, called_if-same}
+use Rattle.world_spec.specs.Assumptions.{vote_call, send_call, ack_call, calls_by}
+use Rattle.safety_law.proofs.InWorld.{each-set, kept-move, new-seats, stopped-due, answered-due}
+use Rattle.safety_law.proofs.Growth.{Grown, grows-move, called_if-same}
+use Rattle.safety_law.proofs.Steps.{HandsNoEntry, no-entry}
 
 -- a call with an entry has the bytes of the next one of the member's epoch
 abbrev pub Comes : List (List Entry) → Member → Call → Type 0
@@ -88,10 +89,12 @@ module _ (s : Setting) (P : List (List Entry) → List Record → Type 0)
 
   -- ---- the other lines
 
-  other : (w : World) (e : Event) → Each (Keeps w.sequences) (calls_of s w e) → AllSeats w → AllSeats (happens s w e)
-  other w e keeps all = each_as (λ (seat : Seat). P w.sequences seat.records) (λ (seat : Seat). P (happens s w e).sequences seat.records) (happens s w e).seats
-      (λ seat p. more w.sequences (happens s w e).sequences seat.records (grows-line s w e) p)
-      (kept-line s (Keeps w.sequences) (P w.sequences) (λ records call x g d p. g records x d p) w e keeps all)
+  other : (w : World) (mv : Move) → Each (Keeps w.sequences) (calls_by s w mv) → AllSeats w → AllSeats (moved (by_records s) s w mv)
+  other w mv keeps all =
+      let next = moved (by_records s) s w mv in
+      each_as (λ (seat : Seat). P w.sequences seat.records) (λ (seat : Seat). P next.sequences seat.records) next.seats
+      (λ seat p. more w.sequences next.sequences seat.records (grows-move s w mv) p)
+      (kept-move s (Keeps w.sequences) (P w.sequences) (λ records call x g d p. g records x d p) w mv keeps all)
 
   keeps-voted : (w : World) (t : Option Made) → Each (Keeps w.sequences) (vote_call t)
   keeps-voted w None = tt
@@ -105,31 +108,18 @@ module _ (s : Setting) (P : List (List Entry) → List Record → Type 0)
   keeps-acked w None = tt
   keeps-acked w (Some t) = (λ records x d p. step w.sequences records (acks t.digest) x tt d p, tt)
 
-  kept-sees : (w : World) (m entries : ℕ) → AllSeats w → AllSeats (happens s w (event.See m entries))
-  unfolding happens_over
-  kept-sees w m entries all = sees-all (min entries (entries_left w (member_at s w m))) w m all
+  kept-move-of : (w : World) (mv : Move) → HandsNoEntry mv → AllSeats w → AllSeats (moved (by_records s) s w mv)
+  kept-move-of w (requests m (vote_named tx)) own all = other w (requests m (vote_named tx)) (keeps-voted w (made_named w tx)) all
+  kept-move-of w (requests m (hold_named tx)) own all = other w (requests m (hold_named tx)) (keeps-sent w (cert_named w tx)) all
+  kept-move-of w (requests m (direct (sees number bytes))) own all = absurd own
+  kept-move-of w (requests m (direct call)) own all = other w (requests m (direct call)) (λ records x d p. step w.sequences records call x tt d p, tt) all
+  kept-move-of w (delivers m entries) own all = sees-all (min entries (entries_left w (member_at s w m))) w m all
+  kept-move-of w (claims m tx (claims_ack spoiled)) own all = other w (claims m tx (claims_ack spoiled)) (keeps-acked w (made_named w tx)) all
+  kept-move-of w mv own all = other w mv tt all
 
   kept : (w : World) (e : Event) → AllSeats w → AllSeats (happens s w e)
-  kept w (event.Tx name sender spoiled epoch gas budget inputs commands) all = other w (event.Tx name sender spoiled epoch gas budget inputs commands) tt all
-  kept w (event.Vote m tx) all = other w (event.Vote m tx) (keeps-voted w (made_named w tx)) all
-  kept w (event.Fvote m tx origins) all = other w (event.Fvote m tx origins) tt all
-  kept w (event.Cert tx members) all = other w (event.Cert tx members) tt all
-  kept w (event.Send m tx) all = other w (event.Send m tx) (keeps-sent w (cert_named w tx)) all
-  kept w (event.Order tx) all = other w (event.Order tx) tt all
-  kept w (event.OrderEnd m) all = other w (event.OrderEnd m) tt all
-  kept w event.OrderCommit all = other w event.OrderCommit tt all
-  kept w (event.See m entries) all = kept-sees w m entries all
-  kept w (event.Run m workers) all = other w (event.Run m workers) (λ records x d p. step w.sequences records runs x tt d p, tt) all
-  kept w (event.Close m) all = other w (event.Close m) (λ records x d p. step w.sequences records closes x tt d p, tt) all
-  kept w (event.End m) all = other w (event.End m) (λ records x d p. step w.sequences records ends x tt d p, tt) all
-  kept w (event.Turn m) all = other w (event.Turn m) (λ records x d p. step w.sequences records turns x tt d p, tt) all
-  kept w (event.Show m) all = other w (event.Show m) tt all
-  kept w (event.Stop m holds_it) all = other w (event.Stop m holds_it) tt all
-  kept w (event.Restart m) all = other w (event.Restart m) tt all
-  kept w (event.RawVote m bytes) all = other w (event.RawVote m bytes) (λ records x d p. step w.sequences records (votes bytes) x tt d p, tt) all
-  kept w (event.RawHold m bytes) all = other w (event.RawHold m bytes) (λ records x d p. step w.sequences records (holds bytes) x tt d p, tt) all
-  kept w (event.Ack m tx spoiled) all = other w (event.Ack m tx spoiled) (keeps-acked w (made_named w tx)) all
-  kept w (event.Final tx members) all = other w (event.Final tx members) tt all
+  unfolding happens_over
+  kept w e all = kept-move-of w (move_of e) (no-entry e) all
 
   kept-run : (events : List Event) (w : World) → AllSeats w → AllSeats (run s events w)
   kept-run [] w all = all

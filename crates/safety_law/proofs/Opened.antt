@@ -1,67 +1,37 @@
 -- Every member opens each epoch with what the epochs before left: line by line of a run, whose prefixes are honest too.
 use Rattle.std.proofs.Common.{refl, sym, subst, ap, ◌∙◌, arith, append_assoc, append-nil}
-use Rattle.std.specs.Prelude.{◌≡◌, ℕ, zero, suc, min, List, [], ◌∷◌, ◌++◌, slice_get, Option, Some, None, option_map, option_and_then}
-use Rattle.chain_messages.specs.declared.messages.Certificate.{Certificate}
+use Rattle.std.specs.Prelude.{◌≡◌, ℕ, List, [], ◌∷◌, ◌++◌, slice_get, Some}
 use Rattle.chain_messages.specs.declared.messages.Entry.{Entry}
 use Rattle.journal_core.specs.declared.records.Record.{Record}
 use Rattle.journal_core.specs.declared.records.Record.TheVariants as record_as
 use Rattle.schedule_text.specs.declared.words.Event.{Event}
-use Rattle.schedule_text.specs.declared.words.Event.TheVariants as event
-use Rattle.protocol_spec.proofs.ListLemmas.{each_join, each_at, front_then, each_as}
+use Rattle.protocol_spec.proofs.ListLemmas.{each_at, each_as}
 use Rattle.protocol_spec.specs.Chain.Words.{Each}
 use Rattle.protocol_spec.specs.Member.Member.{Member, after, state}
 use Rattle.protocol_spec.specs.Member.Calls.{Call, turns, due}
 use Rattle.world_spec.specs.Setting.{Setting}
-use Rattle.world_spec.specs.World.{Seat, Made, World, new_world, member_in, called_if, state_of, next_call_of, next_call, next_entry, numbered_call, entries_at, member_at}
-use Rattle.world_spec.specs.Names.{made_named, cert_named}
-use Rattle.world_spec.specs.Step.{happens, entries_left, happens_over}
+use Rattle.world_spec.specs.World.{Seat, World, new_world, member_in, numbered_call}
+use Rattle.world_spec.specs.Step.{happens}
 use Rattle.world_spec.specs.Openings.{opening_at}
-use Rattle.world_spec.specs.Run.{run, world_after}
-use Rattle.world_spec.specs.Assumptions.{vote_call, send_call, call_list, see_calls, ack_call, calls_of, IsHonestRun}
-use Rattle.safety_law.proofs.InWorld.{kept-line, new-seats}
+use Rattle.world_spec.specs.Run.{world_after}
+use Rattle.world_spec.specs.Assumptions.{IsHonestRun}
+use Rattle.safety_law.proofs.InWorld.{new-seats}
 use Rattle.safety_law.proofs.Apart.{state-push}
 use Rattle.safety_law.proofs.Grown.{world-append}
 use Rattle.safety_law.proofs.Fronts.{honest-front}
-use Rattle.safety_law.proofs.Growth.{Grown, grown-same, grows-line}
+use Rattle.safety_law.proofs.Growth.{Grown, grows-line, grows-run}
 use Rattle.safety_law.proofs.Appends.{a_turn, appended_as, appended_by, due-appends}
 use Rattle.block_law.specs.Orderly.{AreApart}
 use Rattle.safety_law.specs.Past.{past_at}
 use Rattle.safety_law.specs.Opened.{OpensAsLeft}
 use Rattle.safety_law.proofs.Ended.{more-left, same-opening, same-past}
-use Rattle.safety_law.proofs.OneCall.{one-call}
+use Rattle.safety_law.proofs.OneCall.{one-line}
 use Rattle.safety_law.proofs.Turned.{turn-left}
 
--- ---- the calls of a line that is not a turn
+-- ---- calls that are not a turn
 
 abbrev NoTurn : Call → Type 0
 NoTurn call = appended_by call ≡ Some a_turn → ⊥
-
-no-turn-see : (number : ℕ) (e : Entry) → NoTurn (numbered_call number e)
-no-turn-see number e q = absurd (cc)
-
-pub no-turn-next : (number : ℕ) (e : Option Entry) → Each NoTurn (call_list (option_map (numbered_call number) e))
-no-turn-next number None = tt
-no-turn-next number (Some e) = (no-turn-see number e, tt)
-
-pub no-turn-at : (s : Setting) (w : World) (seat : Option Seat) → Each NoTurn (call_list (option_and_then (next_call_of w) (option_and_then (state_of s) seat)))
-no-turn-at s w None = tt
-no-turn-at s w (Some seat) = no-turn-next (member_in s seat).sequence.number (next_entry w (member_in s seat))
-
-pub no-turn-sees : (s : Setting) (n : ℕ) (w : World) (m : ℕ) → Each NoTurn (see_calls s n w m)
-no-turn-sees s zero w m = tt
-no-turn-sees s (suc n) w m = each_join NoTurn (call_list (next_call s w m)) (see_calls s n (called_if s w m (next_call s w m)) m) (no-turn-at s w (slice_get w.seats m)) (no-turn-sees s n (called_if s w m (next_call s w m)) m)
-
-pub no-turn-voted : (t : Option Made) → Each NoTurn (vote_call t)
-no-turn-voted None = tt
-no-turn-voted (Some t) = (λ q. absurd (cc), tt)
-
-pub no-turn-sent : (c : Option Certificate) → Each NoTurn (send_call c)
-no-turn-sent None = tt
-no-turn-sent (Some c) = (λ q. absurd (cc), tt)
-
-pub no-turn-acked : (t : Option Made) → Each NoTurn (ack_call t)
-no-turn-acked None = tt
-no-turn-acked (Some t) = (λ q. absurd (cc), tt)
 
 -- ---- a record that is not a turn leaves the epoch and its opening
 
@@ -104,38 +74,16 @@ module _ (s : Setting) where
 
   -- ---- a line
 
-  grown-left : (w : World) (e : Event) → AllLeft w.sequences (happens s w e).seats → WorldLeft (happens s w e)
-  grown-left w e all = each_as (λ (seat : Seat). Left w.sequences seat.records) (λ (seat : Seat). Left (happens s w e).sequences seat.records)
-      (happens s w e).seats (λ seat left. more-left s w.sequences (happens s w e).sequences (grows-line s w e) (state s.rules s.opening seat.records) left) all
-
-  other-left : (w : World) (e : Event) → Each NoTurn (calls_of s w e) → WorldLeft w → WorldLeft (happens s w e)
-  other-left w e never all = grown-left w e (kept-line s NoTurn (Left w.sequences) (call-left w.sequences) w e never all)
-
-  turn-line : (w : World) → TurnsLeft w → (m : ℕ) → WorldLeft w → AllLeft w.sequences (happens s w (event.Turn m)).seats
-  unfolding happens_over
-  turn-line w turn m all = one-call s (Left w.sequences) w turns turn m all
+  -- at these seats each call opens an epoch, or leaves the one that is open
+  here-left : (w : World) → TurnsLeft w → (call : Call) (m : ℕ) (seat : Seat) → slice_get w.seats m ≡ Some seat → (x : Record) → due s.rules (member_in s seat) call ≡ Some x → Left w.sequences seat.records → Left w.sequences (seat.records ++ x ∷ [])
+  here-left w turn turns m seat at x d left = turn m seat at x d left
+  here-left w turn call m seat at x d left = call-left w.sequences seat.records call x (λ q. absurd (cc)) d left
 
   line-left : (w : World) (e : Event) → TurnsLeft w → WorldLeft w → WorldLeft (happens s w e)
-  line-left w (event.Tx name sender spoiled epoch gas budget inputs commands) turn all = other-left w (event.Tx name sender spoiled epoch gas budget inputs commands) tt all
-  line-left w (event.Vote m tx) turn all = other-left w (event.Vote m tx) (no-turn-voted (made_named w tx)) all
-  line-left w (event.Fvote m tx origins) turn all = other-left w (event.Fvote m tx origins) tt all
-  line-left w (event.Cert tx members) turn all = other-left w (event.Cert tx members) tt all
-  line-left w (event.Send m tx) turn all = other-left w (event.Send m tx) (no-turn-sent (cert_named w tx)) all
-  line-left w (event.Order tx) turn all = other-left w (event.Order tx) tt all
-  line-left w (event.OrderEnd m) turn all = other-left w (event.OrderEnd m) tt all
-  line-left w event.OrderCommit turn all = other-left w event.OrderCommit tt all
-  line-left w (event.See m entries) turn all = other-left w (event.See m entries) (no-turn-sees s (min entries (entries_left w (member_at s w m))) w m) all
-  line-left w (event.Run m workers) turn all = other-left w (event.Run m workers) (λ q. absurd (cc), tt) all
-  line-left w (event.Close m) turn all = other-left w (event.Close m) (λ q. absurd (cc), tt) all
-  line-left w (event.End m) turn all = other-left w (event.End m) (λ q. absurd (cc), tt) all
-  line-left w (event.Turn m) turn all = grown-left w (event.Turn m) (turn-line w turn m all)
-  line-left w (event.Show m) turn all = other-left w (event.Show m) tt all
-  line-left w (event.Stop m kept) turn all = other-left w (event.Stop m kept) tt all
-  line-left w (event.Restart m) turn all = other-left w (event.Restart m) tt all
-  line-left w (event.RawVote m bytes) turn all = other-left w (event.RawVote m bytes) (λ q. absurd (cc), tt) all
-  line-left w (event.RawHold m bytes) turn all = other-left w (event.RawHold m bytes) (λ q. absurd (cc), tt) all
-  line-left w (event.Ack m tx spoiled) turn all = other-left w (event.Ack m tx spoiled) (no-turn-acked (made_named w tx)) all
-  line-left w (event.Final tx members) turn all = other-left w (event.Final tx members) tt all
+  line-left w e turn all =
+      each_as (λ (seat : Seat). Left w.sequences seat.records) (λ (seat : Seat). Left (happens s w e).sequences seat.records)
+      (happens s w e).seats (λ seat left. more-left s w.sequences (happens s w e).sequences (grows-line s w e) (state s.rules s.opening seat.records) left)
+      (one-line s (Left w.sequences) w (here-left w turn) (λ number e records x d left. call-left w.sequences records (numbered_call number e) x (λ q. absurd (cc)) d left) e all)
 
   -- ---- a run
 
@@ -164,13 +112,8 @@ module _ (s : Setting) where
 
   -- ---- at two moments
 
-  grows-run : (events : List Event) (w : World) → Grown w.sequences (run s events w).sequences
-  grows-run [] w epoch = grown-same w.sequences epoch
-  grows-run (e ∷ events) w epoch =
-      front_then (entries_at w.sequences epoch) (entries_at (happens s w e).sequences epoch) (entries_at (run s events (happens s w e)).sequences epoch) (grows-line s w e epoch) (grows-run events (happens s w e) epoch)
-
   pub grows-after : (front back : List Event) → Grown (world_after s front).sequences (world_after s (front ++ back)).sequences
-  grows-after front back = subst (λ (v : World). Grown (world_after s front).sequences v.sequences) (sym (world-append s front back)) (grows-run back (world_after s front))
+  grows-after front back = subst (λ (v : World). Grown (world_after s front).sequences v.sequences) (sym (world-append s front back)) (grows-run s back (world_after s front))
 
   pub opened-alike : (front back : List Event) → IsHonestRun s (front ++ back) → AreApart s.opening → (m n : ℕ) (a b : Seat)
       → slice_get (world_after s front).seats m ≡ Some a → slice_get (world_after s (front ++ back)).seats n ≡ Some b → (member_in s a).epoch ≡ (member_in s b).epoch → (member_in s a).opening ≡ (member_in s b).opening

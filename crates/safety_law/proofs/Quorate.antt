@@ -10,12 +10,11 @@ use Rattle.protocol_spec.specs.Chain.Certificates.{members_of}
 use Rattle.protocol_spec.specs.Member.Calls.{Call}
 use Rattle.world_spec.specs.Setting.{Setting}
 use Rattle.world_spec.specs.World.{Seat, Made, Formed, World, Reached, finds_down, stops, answers, new_world, reached_seat, behind, called_seat, called_in, called_over, Said}
-use Rattle.world_spec.specs.Step.{first_origins, happens, certificate_of, collected_seal, votes_collected}
+use Rattle.world_spec.specs.Step.{first_origins, certificate_of, collected_seal, votes_collected}
 use Rattle.world_spec.specs.Run.{world_after}
-use Rattle.world_spec.specs.Assumptions.{calls_of}
-use Rattle.safety_law.proofs.InWorld.{each-any}
+use Rattle.safety_law.proofs.InWorld.{any-given}
 use Rattle.safety_law.proofs.Once.{has-push}
-use Rattle.safety_law.proofs.Steps.{Keeps, AllGiven, with_formed, step-run}
+use Rattle.safety_law.proofs.Steps.{Keeps, with_formed, step-run}
 use Rattle.safety_law.proofs.Sound.{collected-quorum}
 
 module _ (s : Setting) where
@@ -67,14 +66,10 @@ module _ (s : Setting) where
     forms = λ w t ms _ e all. quorate-forms w t ms e all;
   }
 
-  pub any-given : (events : List Event) (w : World) → AllGiven s (λ _ _. Unit {0}) events w
-  any-given [] w = tt
-  any-given (e ∷ events) w = (each-any (calls_of s w e), any-given events (happens s w e))
-
   quorate-new : AreQuorate (new_world s)
   unfolding new_world
   quorate-new f h = absurd h
 
   pub quorate-after : (events : List Event) → AreQuorate (world_after s events)
   unfolding world_after
-  quorate-after events = step-run s (λ _ _. Unit {0}) AreQuorate quorate-keeps events (new_world s) (any-given events (new_world s)) quorate-new
+  quorate-after events = step-run s (λ _ _. Unit {0}) AreQuorate quorate-keeps events (new_world s) (any-given s events (new_world s)) quorate-new

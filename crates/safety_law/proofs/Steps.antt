@@ -1,11 +1,9 @@
 -- A run as steps: a call of a member, a statement of a faulty one, a seat that is armed or started, an entry, the
--- rise of the epoch, a transaction made, a certificate formed. What each step keeps, a run keeps.
+-- rise of the epoch, a transaction made, a certificate formed. What each step keeps, each move keeps, and a run.
 use Rattle.std.proofs.Common.{refl, subst, inl, inr, ◌∙◌}
 use Rattle.std.proofs.lemmas.Bool.{eqb-true}
 use Rattle.std.specs.Prelude.{◌≡◌, ℕ, zero, suc, min, Bool, true, false, cond, ◌==◌, List, [], ◌∷◌, ◌++◌, slice_get, Option, Some, None, option_map, bytes_eq}
-use Rattle.chain_types.specs.Transactions as transactions
 use Rattle.chain_types.specs.Digests.{transaction_digest}
-use Rattle.chain_messages.specs.Messages as messages
 use Rattle.chain_messages.specs.declared.messages.Statement.{Statement}
 use Rattle.chain_messages.specs.declared.messages.Statement.TheVariants as statement
 use Rattle.chain_messages.specs.declared.messages.Certificate.{Certificate}
@@ -16,15 +14,16 @@ use Rattle.schedule_text.specs.declared.words.Event.TheVariants as event
 use Rattle.protocol_spec.proofs.ListLemmas.{each_front, each_back, find_has}
 use Rattle.protocol_spec.specs.Chain.Collecting.{Collected, lacks, short, differ, whole}
 use Rattle.protocol_spec.specs.Chain.Words.{Has, Each, first_some, where_true, last_where}
-use Rattle.protocol_spec.specs.Member.Calls.{Call, votes, holds, runs, closes, ends, turns, acks}
+use Rattle.protocol_spec.specs.Member.Calls.{Call, sees, acks}
 use Rattle.world_spec.specs.Setting.{Name, Setting}
-use Rattle.world_spec.specs.World.{Seat, Said, Made, Formed, World, with_seat, called_in, called_if, sees_on, is_honest, member_at, next_call, armed_seat, started_seat}
+use Rattle.world_spec.specs.World.{Seat, Said, Made, Formed, World, with_seat, by_records, called_in, called_if, sees_on, is_honest, member_at, next_call, armed_seat, started_seat}
 use Rattle.world_spec.specs.Names.{made_named, cert_named, cert_in}
 use Rattle.world_spec.specs.Making.{TxLine, made_over, made_as, transaction_of, with_made}
-use Rattle.world_spec.specs.Step.{happens, says, voted_on, fvoted, fvote_origins, formed, formed_as, first_origins, certificate_of, votes_collected, sent, ordered, honest_end, ordered_end, risen_if, has_ended, appended_entry, sealed_end, acked, false_ack, on_seat, entries_left, end_in, says_of, last_said, happens_over, of_statement, last_read}
+use Rattle.world_spec.specs.Moves.{Move, looks_on, makes_tx, requests, delivers, claims, certifies, submits, submits_end, arms_stop, starts_again, direct, claims_vote, claims_ack, cert_submitted, mark_submitted, requested, move_of}
+use Rattle.world_spec.specs.Step.{happens, says, fvoted, fvote_origins, formed, formed_as, first_origins, certificate_of, votes_collected, ordered, honest_end, ordered_end, risen_if, has_ended, appended_entry, sealed_end, acked, false_ack, on_seat, entries_left, end_in, says_of, last_said, moved, happens_over, of_statement, last_read}
 use Rattle.world_spec.specs.Run.{run}
-use Rattle.world_spec.specs.Assumptions.{vote_call, send_call, call_list, see_calls, ack_call, calls_of, HasSaid}
-use Rattle.safety_law.specs.Owners.{callee}
+use Rattle.world_spec.specs.Assumptions.{call_list, see_calls, ack_call, calls_by, calls_of, HasSaid}
+use Rattle.safety_law.specs.Owners.{callee, callee_of}
 use Rattle.digest_core.specs.declared.Digest.{Digest}
 
 -- what was found last is an element
@@ -110,6 +109,15 @@ pub record Keeps (s : Setting) (Given : Option ℕ → Call → Type 0) (Q : Wor
   pub makes : (w : World) (l : TxLine) (t : Made) → t.digest ≡ transaction_digest t.signed.tx → Q w → Q (with_made w l t)
   pub forms : (w : World) (t : Made) (ms : List ℕ) → Has w.txs t → votes_collected s w t ms ≡ whole → Q w → Q (with_formed w t ms)
 
+-- no entry but the next one of its sequence is handed to a member
+abbrev pub HandsNoEntry : Move → Type 0
+HandsNoEntry (requests m (direct (sees number bytes))) = ⊥
+HandsNoEntry mv = Unit {0}
+
+pub no-entry : (e : Event) → HandsNoEntry (move_of e)
+no-entry event.OrderCommit = tt
+no-entry e = tt
+
 -- each call of the run is as given
 abbrev pub AllGiven : Setting → (Option ℕ → Call → Type 0) → List Event → World → Type 0
 AllGiven s Given [] w = Unit {0}
@@ -123,10 +131,6 @@ module _ (s : Setting) (Given : Option ℕ → Call → Type 0) (Q : World → T
   step-sees : (n : ℕ) (w : World) (m : ℕ) → Each (Given (Some m)) (see_calls s n w m) → Q w → Q (sees_on s n w m)
   step-sees zero w m g q = q
   step-sees (suc n) w m g q = step-sees n (called_if s w m (next_call s w m)) m (each_back (Given (Some m)) (call_list (next_call s w m)) _ g) (step-called_if w m (next_call s w m) (each_front (Given (Some m)) (call_list (next_call s w m)) _ g) q)
-
-  step-voted : (w : World) (m : ℕ) (t : Option Made) → Each (Given (Some m)) (vote_call t) → Q w → Q (voted_on s w m t)
-  step-voted w m None g q = q
-  step-voted w m (Some t) g q = k.calls w m (votes (transactions.signed.spell t.signed)) g.0 q
 
   -- a test with its answer
   step-if : (b : Bool) (v w : World) → (b ≡ true → Q v) → (b ≡ false → Q w) → Q (cond b v w)
@@ -147,10 +151,6 @@ module _ (s : Setting) (Given : Option ℕ → Call → Type 0) (Q : World → T
   step-formed : (w : World) (ms : List ℕ) (t : Option Made) → ((x : Made) → t ≡ Some x → Has w.txs x) → Q w → Q (formed s w ms t)
   step-formed w ms None has q = q
   step-formed w ms (Some t) has q = step-formed_as w t ms (votes_collected s w t ms) (has t refl) refl q
-
-  step-sent : (w : World) (m : ℕ) (c : Option Certificate) → Each (Given (Some m)) (send_call c) → Q w → Q (sent s w m c)
-  step-sent w m None g q = q
-  step-sent w m (Some c) g q = k.calls w m (holds (messages.certificate.spell c)) g.0 q
 
   step-ordered : (w : World) (c : Option Certificate) → ((x : Certificate) → c ≡ Some x → IsBacked w (entry.Cert x)) → Q w → Q (ordered w c)
   step-ordered w None backed q = q
@@ -195,33 +195,29 @@ module _ (s : Setting) (Given : Option ℕ → Call → Type 0) (Q : World → T
   lied-end : (w : World) (m : ℕ) → is_honest w m ≡ false → IsBacked (says s.seal w m (statement.End w.epoch)) (sealed_end s m w.epoch)
   lied-end w m faulty honest = absurd (cc)
 
-  pub step-line : (w : World) (e : Event) → Each (Given (callee e)) (calls_of s w e) → Q w → Q (happens s w e)
-  unfolding happens_over made_over
-  step-line w (event.Tx name sender spoiled epoch gas budget inputs commands) g q =
-      let l : TxLine = record { name = name; sender = sender; spoiled = spoiled; epoch = epoch; gas = gas; budget = budget; inputs = inputs; commands = commands } in
-      k.makes w l (made_as s l.name l.spoiled (transaction_of s w l)) refl q
-  step-line w (event.Vote m tx) g q = step-voted w m (made_named w tx) g q
-  step-line w (event.Fvote m tx origins) g q = step-fvoted w m origins (made_named w tx) (named-has w tx) q
-  step-line w (event.Cert tx members) g q = step-formed w members (made_named w tx) (named-has w tx) q
-  step-line w (event.Send m tx) g q = step-sent w m (cert_named w tx) g q
-  step-line w (event.Order tx) g q = step-ordered w (cert_named w tx) (named-backed w tx) q
-  step-line w (event.OrderEnd m) g q =
+  -- ---- a move, and a line
+
+  pub step-move : (w : World) (mv : Move) → Each (Given (callee_of mv)) (calls_by s w mv) → Q w → Q (moved (by_records s) s w mv)
+  unfolding made_over
+  step-move w looks_on g q = q
+  step-move w (makes_tx l) g q = k.makes w l (made_as s l.name l.spoiled (transaction_of s w l)) refl q
+  step-move w (requests m ask) g q = step-called_if w m (requested w ask) g q
+  step-move w (delivers m entries) g q = step-sees (min entries (entries_left w (member_at s w m))) w m g q
+  step-move w (claims m tx (claims_vote origins)) g q = step-fvoted w m origins (made_named w tx) (named-has w tx) q
+  step-move w (claims m tx (claims_ack spoiled)) g q = step-acked w m spoiled (made_named w tx) g q
+  step-move w (certifies tx members) g q = step-formed w members (made_named w tx) (named-has w tx) q
+  step-move w (submits (cert_submitted tx)) g q = step-ordered w (cert_named w tx) (named-backed w tx) q
+  step-move w (submits mark_submitted) g q = k.enters w entry.Commit tt q
+  step-move w (submits_end m) g q =
       step-if (is_honest w m) (honest_end s w m (last_said end_in m w.said)) (ordered_end s (says s.seal w m (statement.End w.epoch)) m w.epoch)
       (λ _. step-honest_end w m (last_said end_in m w.said) (stated-end w m) q)
       (λ faulty. step-end (says s.seal w m (statement.End w.epoch)) m w.epoch (lied-end w m faulty) (k.lies w m (statement.End w.epoch) faulty tt q))
-  step-line w event.OrderCommit g q = k.enters w entry.Commit tt q
-  step-line w (event.See m entries) g q = step-sees (min entries (entries_left w (member_at s w m))) w m g q
-  step-line w (event.Run m workers) g q = k.calls w m runs g.0 q
-  step-line w (event.Close m) g q = k.calls w m closes g.0 q
-  step-line w (event.End m) g q = k.calls w m ends g.0 q
-  step-line w (event.Turn m) g q = k.calls w m turns g.0 q
-  step-line w (event.Show m) g q = q
-  step-line w (event.Stop m kept) g q = step-on_seat w m (armed_seat kept) (λ seat. refl) (λ seat. refl) (slice_get w.seats m) refl q
-  step-line w (event.Restart m) g q = step-on_seat w m started_seat (λ seat. refl) (λ seat. refl) (slice_get w.seats m) refl q
-  step-line w (event.RawVote m bytes) g q = k.calls w m (votes bytes) g.0 q
-  step-line w (event.RawHold m bytes) g q = k.calls w m (holds bytes) g.0 q
-  step-line w (event.Ack m tx spoiled) g q = step-acked w m spoiled (made_named w tx) g q
-  step-line w (event.Final tx members) g q = q
+  step-move w (arms_stop m kept) g q = step-on_seat w m (armed_seat kept) (λ seat. refl) (λ seat. refl) (slice_get w.seats m) refl q
+  step-move w (starts_again m) g q = step-on_seat w m started_seat (λ seat. refl) (λ seat. refl) (slice_get w.seats m) refl q
+
+  pub step-line : (w : World) (e : Event) → Each (Given (callee e)) (calls_of s w e) → Q w → Q (happens s w e)
+  unfolding happens_over
+  step-line w e g q = step-move w (move_of e) g q
 
   pub step-run : (events : List Event) (w : World) → AllGiven s Given events w → Q w → Q (run s events w)
   step-run [] w g q = q

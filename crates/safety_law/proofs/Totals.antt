@@ -15,11 +15,10 @@ use Rattle.world_spec.specs.World.{Made, World, new_world}
 use Rattle.world_spec.specs.Step.{happens}
 use Rattle.world_spec.specs.Run.{world_after}
 use Rattle.world_spec.specs.Assumptions.{calls_of, signed_read, asked, all_of, all_formed, all_delivered, all_transactions}
-use Rattle.safety_law.proofs.InWorld.{each-any}
+use Rattle.safety_law.proofs.InWorld.{any-given, each-any}
 use Rattle.safety_law.specs.Owners.{callee, is_member, handed}
 use Rattle.safety_law.proofs.Steps.{IsBacked, AllGiven, step-run}
 use Rattle.safety_law.proofs.Sound.{IsSound, IsGiven, sound-keeps}
-use Rattle.safety_law.proofs.Quorate.{any-given}
 
 pub each-all : {A : Type 0} (P : A → Type 0) (xs : List A) → ((x : A) → Has xs x → P x) → Each P xs
 each-all P [] all = tt

@@ -1,6 +1,6 @@
 -- What a line without raw bytes delivers was formed of stated votes, or is an End that its member stated.
 use Rattle.std.proofs.Common.{refl, sym, subst, ap, ◌∙◌}
-use Rattle.std.specs.Prelude.{◌≡◌, ℕ, zero, suc, min, Bool, true, false, cond, List, [], ◌∷◌, ◌++◌, flat_map, slice_get, slice_set, Option, Some, None, option_map, option_and_then, Result, Ok}
+use Rattle.std.specs.Prelude.{◌≡◌, ℕ, zero, suc, min, Bool, true, false, cond, List, [], ◌∷◌, flat_map, slice_get, Option, Some, None, option_map, option_and_then, Result, Ok}
 use Rattle.wire_bcs.specs.declared.fault.WireFault.{WireFault}
 use Rattle.wire_bcs.specs.Whole.{whole-only}
 use Rattle.chain_messages.specs.Messages as messages
@@ -9,22 +9,23 @@ use Rattle.chain_messages.specs.declared.messages.Certificate.{Certificate}
 use Rattle.chain_messages.specs.declared.messages.Entry.{Entry}
 use Rattle.chain_messages.specs.declared.messages.Entry.TheVariants as entry
 use Rattle.schedule_text.specs.declared.words.Event.{Event}
-use Rattle.schedule_text.specs.declared.words.Event.TheVariants as event
 use Rattle.protocol_spec.proofs.ListLemmas.{each_has, has_left, has_map, each_join}
-use Rattle.protocol_spec.specs.Chain.Words.{Has, Each}
+use Rattle.protocol_spec.specs.Chain.Words.{Has, Each, IsFront}
 use Rattle.protocol_spec.specs.Chain.Certificates.{read_as, read_certificate, read_entry, vote_of}
 use Rattle.protocol_spec.specs.Member.Member.{Member}
 use Rattle.protocol_spec.specs.Member.Calls.{Call, holds, sees}
 use Rattle.world_spec.specs.Setting.{Setting}
-use Rattle.world_spec.specs.World.{Seat, Made, Formed, World, Reached, finds_down, stops, answers, new_world, reached_seat, behind, called_seat, called_in, called_if, entries_at, member_at, next_entry, next_call_of, next_call, numbered_call, called_over}
+use Rattle.world_spec.specs.World.{Made, Formed, World, new_world, called_if, entries_at, member_at, next_entry, next_call_of, next_call, numbered_call}
 use Rattle.world_spec.specs.Names.{made_named, cert_named}
-use Rattle.world_spec.specs.Step.{happens, open_entries, entries_left}
+use Rattle.world_spec.specs.Moves.{Move, requests, delivers, claims, vote_named, hold_named, direct, claims_ack, move_of}
+use Rattle.world_spec.specs.Step.{happens, entries_left}
 use Rattle.world_spec.specs.Run.{run, world_after}
-use Rattle.world_spec.specs.Assumptions.{vote_call, send_call, call_list, see_calls, ack_call, calls_of, read_list, entry_certificates, entry_ends, certificates_read, ends_read, delivered, delivered_ends, all_formed, IsStated, IsUnforged, IsUnforgedEnd, NoForgery}
+use Rattle.world_spec.specs.Assumptions.{vote_call, send_call, call_list, see_calls, ack_call, calls_by, calls_of, read_list, entry_certificates, entry_ends, certificates_read, ends_read, delivered, delivered_ends, all_formed, IsStated, IsUnforged, IsUnforgedEnd, NoForgery}
 use Rattle.safety_law.proofs.InWorld.{each-any}
-use Rattle.safety_law.specs.Owners.{is_raw_hold, AreSpellable}
-use Rattle.safety_law.proofs.Steps.{Keeps, IsBacked, step-line, named-backed}
+use Rattle.safety_law.specs.Owners.{holds_raw, is_raw_hold, AreSpellable}
+use Rattle.safety_law.proofs.Steps.{HandsNoEntry, IsBacked, named-backed, no-entry, step-line}
 use Rattle.safety_law.proofs.Grown.{IsGrown, grown-run}
+use Rattle.safety_law.proofs.Growth.{called_if-same, grows-run}
 use Rattle.safety_law.proofs.Sound.{IsSound, sound-keeps, entry-in, get-has}
 use Rattle.safety_law.proofs.Totals.{each-all, sound-new}
 
@@ -44,56 +45,14 @@ back-entry e fits = ap read_as (whole-only messages.entry (messages.entry.spell 
 
 -- ---- sequences only grow
 
-entries-set : (qs : List (List Entry)) (k : ℕ) (new : List Entry) → ((x : Entry) → Has (entries_at qs k) x → Has new x) → (n : ℕ) (x : Entry) → Has (entries_at qs n) x → Has (entries_at (slice_set qs k new) n) x
-entries-set [] k new more n x h = h
-entries-set (q ∷ qs) zero new more zero x h = more x h
-entries-set (q ∷ qs) zero new more (suc n) x h = h
-entries-set (q ∷ qs) (suc k) new more zero x h = h
-entries-set (q ∷ qs) (suc k) new more (suc n) x h = entries-set qs k new more n x h
-
-entries-more : (qs : List (List Entry)) (n : ℕ) (x : Entry) → Has (entries_at qs n) x → Has (entries_at (qs ++ [] ∷ []) n) x
-entries-more [] n x h = absurd h
-entries-more (q ∷ qs) zero x h = h
-entries-more (q ∷ qs) (suc n) x h = entries-more qs n x h
-
 abbrev IsLonger : World → World → Type 0
 IsLonger w v = (n : ℕ) (x : Entry) → Has (entries_at w.sequences n) x → Has (entries_at v.sequences n) x
 
-module _ (s : Setting) where
-  same-behind : (w : World) (m : ℕ) (call : Call) (seat : Seat) (r : Reached) → (behind s w m call seat r).sequences ≡ w.sequences
-  same-behind w m call seat finds_down = refl
-  same-behind w m call seat (stops kept x) = refl
-  same-behind w m call seat (answers before x) = refl
-
-  same-seat : (w : World) (m : ℕ) (call : Call) (seat : Option Seat) → (called_seat s w m call seat).sequences ≡ w.sequences
-  same-seat w m call None = refl
-  same-seat w m call (Some seat) = same-behind w m call seat (reached_seat s call seat)
-
-  same-called : (w : World) (m : ℕ) (call : Call) → (called_in s w m call).sequences ≡ w.sequences
-  unfolding called_over
-  same-called w m call = same-seat w m call (slice_get w.seats m)
-
-  same-called_if : (w : World) (m : ℕ) (call : Option Call) → (called_if s w m call).sequences ≡ w.sequences
-  same-called_if w m None = refl
-  same-called_if w m (Some call) = same-called w m call
-
-  longer-keeps : (u : World) → Keeps s (λ _ _. Unit {0}) (IsLonger u)
-  longer-keeps u = record {
-    calls = λ w m call _ g n x h. subst (λ (qs : List (List Entry)). Has (entries_at qs n) x) (sym (same-called w m call)) (g n x h);
-    lies = λ w m st _ _ g. g;
-    seats = λ w m seat new _ _ _ g. g;
-    enters = λ w e _ g n x h. entries-set w.sequences w.epoch (open_entries w ++ e ∷ []) (λ y k. has_left (open_entries w) (e ∷ []) y k) n x (g n x h);
-    rises = λ w g n x h. entries-more w.sequences n x (g n x h);
-    makes = λ w l t _ g. g;
-    forms = λ w t ms _ _ g. g;
-  }
-
-  longer-line : (w : World) (e : Event) → IsLonger w (happens s w e)
-  longer-line w e = step-line s (λ _ _. Unit {0}) (IsLonger w) (longer-keeps w) w e (each-any (calls_of s w e)) (λ n x h. h)
-
-  longer-run : (events : List Event) (w : World) → IsLonger w (run s events w)
-  longer-run [] w n x h = h
-  longer-run (e ∷ events) w n x h = longer-run events (happens s w e) n x (longer-line w e n x h)
+longer-run : (s : Setting) (events : List Event) (w : World) → IsLonger w (run s events w)
+longer-run s events w n x h = go (grows-run s events w n)
+  where
+    go : IsFront (entries_at w.sequences n) (entries_at (run s events w).sequences n) → Has (entries_at (run s events w).sequences n) x
+    go (rest, is) = subst (λ (es : List Entry). Has es x) (sym is) (has_left (entries_at w.sequences n) rest x h)
 
 -- ---- one world of the run
 
@@ -151,7 +110,7 @@ module _ (s : Setting) (all : List Event) (spellable : AreSpellable s all) (w : 
 
   honest-sees : (n : ℕ) (v : World) → v.sequences ≡ w.sequences → (m : ℕ) → Each IsHonestCall (see_calls s n v m)
   honest-sees zero v same m = tt
-  honest-sees (suc n) v same m = each_join IsHonestCall (call_list (next_call s v m)) _ (honest-next v same m) (honest-sees n (called_if s v m (next_call s v m)) (same-called_if s v m (next_call s v m) ∙ same) m)
+  honest-sees (suc n) v same m = each_join IsHonestCall (call_list (next_call s v m)) _ (honest-next v same m) (honest-sees n (called_if s v m (next_call s v m)) (called_if-same s v m (next_call s v m) ∙ same) m)
 
   honest-vote : (t : Option Made) → Each IsHonestCall (vote_call t)
   honest-vote None = tt
@@ -165,27 +124,15 @@ module _ (s : Setting) (all : List Event) (spellable : AreSpellable s all) (w : 
   honest-ack None = tt
   honest-ack (Some t) = ((tt, tt), tt)
 
-  honest-calls : (e : Event) → is_raw_hold e ≡ false → Each IsHonestCall (calls_of s w e)
-  honest-calls (event.Tx name sender spoiled epoch gas budget inputs commands) raw = tt
-  honest-calls (event.Vote m tx) raw = honest-vote (made_named w tx)
-  honest-calls (event.Fvote m tx origins) raw = tt
-  honest-calls (event.Cert tx members) raw = tt
-  honest-calls (event.Send m tx) raw = honest-send (cert_named w tx) (named-backed w tx)
-  honest-calls (event.Order tx) raw = tt
-  honest-calls (event.OrderEnd m) raw = tt
-  honest-calls event.OrderCommit raw = tt
-  honest-calls (event.See m entries) raw = honest-sees (min entries (entries_left w (member_at s w m))) w refl m
-  honest-calls (event.Run m workers) raw = ((tt, tt), tt)
-  honest-calls (event.Close m) raw = ((tt, tt), tt)
-  honest-calls (event.End m) raw = ((tt, tt), tt)
-  honest-calls (event.Turn m) raw = ((tt, tt), tt)
-  honest-calls (event.Show m) raw = tt
-  honest-calls (event.Stop m kept) raw = tt
-  honest-calls (event.Restart m) raw = tt
-  honest-calls (event.RawVote m bytes) raw = ((tt, tt), tt)
-  honest-calls (event.RawHold m bytes) raw = absurd (cc)
-  honest-calls (event.Ack m tx spoiled) raw = honest-ack (made_named w tx)
-  honest-calls (event.Final tx members) raw = tt
+  honest-calls : (mv : Move) → HandsNoEntry mv → holds_raw mv ≡ false → Each IsHonestCall (calls_by s w mv)
+  honest-calls (requests m (vote_named tx)) own raw = honest-vote (made_named w tx)
+  honest-calls (requests m (hold_named tx)) own raw = honest-send (cert_named w tx) (named-backed w tx)
+  honest-calls (requests m (direct (holds bytes))) own raw = absurd (cc)
+  honest-calls (requests m (direct (sees number bytes))) own raw = absurd own
+  honest-calls (requests m (direct call)) own raw = ((tt, tt), tt)
+  honest-calls (delivers m entries) own raw = honest-sees (min entries (entries_left w (member_at s w m))) w refl m
+  honest-calls (claims m tx (claims_ack spoiled)) own raw = honest-ack (made_named w tx)
+  honest-calls mv own raw = tt
 
   firsts : (calls : List Call) → Each IsHonestCall calls → Each (λ (call : Call). Each (IsUnforged s w) (certificates_read s.rules call)) calls
   firsts [] each = tt
@@ -198,7 +145,7 @@ module _ (s : Setting) (all : List Event) (spellable : AreSpellable s all) (w : 
   line-unforged : (e : Event) → is_raw_hold e ≡ false → Each (IsUnforged s w) (delivered s w e) × Each (IsUnforgedEnd s w) (delivered_ends s w e)
   unfolding delivered delivered_ends
   line-unforged e raw =
-      let each = honest-calls e raw in
+      let each = honest-calls (move_of e) (no-entry e) raw in
       (each-flat (certificates_read s.rules) (IsUnforged s w) (calls_of s w e) (firsts (calls_of s w e) each), each-flat (ends_read s.rules) (IsUnforgedEnd s w) (calls_of s w e) (seconds (calls_of s w e) each))
 
 -- ---- the whole run

@@ -9,13 +9,13 @@ use Rattle.chain_messages.specs.declared.messages.MemberSeal.{MemberSeal}
 use Rattle.chain_messages.specs.declared.messages.Certificate.{Certificate}
 use Rattle.journal_core.specs.declared.records.Record.TheVariants as record_as
 use Rattle.schedule_text.specs.declared.words.Event.{Event}
-use Rattle.schedule_text.specs.declared.words.Event.TheVariants as event
 use Rattle.protocol_spec.specs.Chain.Words.{Has, Each}
 use Rattle.protocol_spec.specs.Chain.Certificates.{accepts_sender, vote_of, cert_refusal}
 use Rattle.protocol_spec.specs.Member.Member.{fork_of}
-use Rattle.protocol_spec.specs.Member.Calls.{Call, called}
+use Rattle.protocol_spec.specs.Member.Calls.{Call, holds, called}
 use Rattle.world_spec.specs.Setting.{Setting, member_seal}
 use Rattle.world_spec.specs.World.{Seat, Said, World, new_world, said_under, member_in, is_honest, entries_at}
+use Rattle.world_spec.specs.Moves.{Move, requests, delivers, claims, direct, claims_ack, move_of}
 use Rattle.world_spec.specs.Run.{world_after}
 use Rattle.world_spec.specs.Assumptions.{calls_of, asked, all_of, all_formed, all_delivered, HasSaid, IsCertified, NoForgery, IsHonestRun}
 
@@ -70,28 +70,16 @@ OneListOfOrigins = (s : Setting) (events : List Event) → IsHonestRun s events 
 
 -- ---- the sender
 
+-- the member that a move calls
+abbrev pub callee_of : Move → Option ℕ
+callee_of (requests m ask) = Some m
+callee_of (delivers m entries) = Some m
+callee_of (claims m tx (claims_ack spoiled)) = Some m
+callee_of mv = None
+
 -- the member that a line calls
 abbrev pub callee : Event → Option ℕ
-callee (event.Tx name sender spoiled epoch gas budget inputs commands) = None
-callee (event.Vote m tx) = Some m
-callee (event.Fvote m tx origins) = None
-callee (event.Cert tx members) = None
-callee (event.Send m tx) = Some m
-callee (event.Order tx) = None
-callee (event.OrderEnd m) = None
-callee event.OrderCommit = None
-callee (event.See m entries) = Some m
-callee (event.Run m workers) = Some m
-callee (event.Close m) = Some m
-callee (event.End m) = Some m
-callee (event.Turn m) = Some m
-callee (event.Show m) = None
-callee (event.Stop m kept) = None
-callee (event.Restart m) = None
-callee (event.RawVote m bytes) = Some m
-callee (event.RawHold m bytes) = Some m
-callee (event.Ack m tx spoiled) = Some m
-callee (event.Final tx members) = None
+callee e = callee_of (move_of e)
 
 abbrev pub is_member : ℕ → Option ℕ → Bool
 is_member m None = false
@@ -125,28 +113,14 @@ NoCallMeetsAFork = (s : Setting) (front back : List Event) (e : Event) → IsHon
 
 -- ---- schedules without raw certificates
 
--- whether a line hands a member bytes of its own as a certificate
+-- whether a move hands a member bytes of its own as a certificate
+abbrev pub holds_raw : Move → Bool
+holds_raw (requests m (direct (holds bytes))) = true
+holds_raw mv = false
+
+-- whether a line does
 abbrev pub is_raw_hold : Event → Bool
-is_raw_hold (event.Tx name sender spoiled epoch gas budget inputs commands) = false
-is_raw_hold (event.Vote m tx) = false
-is_raw_hold (event.Fvote m tx origins) = false
-is_raw_hold (event.Cert tx members) = false
-is_raw_hold (event.Send m tx) = false
-is_raw_hold (event.Order tx) = false
-is_raw_hold (event.OrderEnd m) = false
-is_raw_hold event.OrderCommit = false
-is_raw_hold (event.See m entries) = false
-is_raw_hold (event.Run m workers) = false
-is_raw_hold (event.Close m) = false
-is_raw_hold (event.End m) = false
-is_raw_hold (event.Turn m) = false
-is_raw_hold (event.Show m) = false
-is_raw_hold (event.Stop m kept) = false
-is_raw_hold (event.Restart m) = false
-is_raw_hold (event.RawVote m bytes) = false
-is_raw_hold (event.RawHold m bytes) = true
-is_raw_hold (event.Ack m tx spoiled) = false
-is_raw_hold (event.Final tx members) = false
+is_raw_hold e = holds_raw (move_of e)
 
 -- the certificates that the lines formed and the entries that they ordered are values of their Rust types, with no
 -- list too long to be encoded

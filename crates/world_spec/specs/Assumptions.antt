@@ -1,6 +1,6 @@
 -- The run assumptions, and what is certified, delivered and final in a run. Source: Sui Lutris (under a third
 -- of the stake is faulty, signatures are not forged, digests do not collide).
-use Rattle.std.specs.Prelude.{◌≡◌, ◌<◌, ℕ, zero, suc, ◌*◌, min, Bool, true, not, List, [], ◌∷◌, ◌++◌, map, flat_map, slice_get, Option, Some, None, Result, Ok, Err}
+use Rattle.std.specs.Prelude.{◌≡◌, ◌<◌, ℕ, zero, suc, ◌*◌, min, Bool, true, not, List, [], ◌∷◌, ◌++◌, map, flat_map, slice_get, Option, Some, None, option_map, Result, Ok, Err}
 use Rattle.wire_bcs.specs.declared.fault.WireFault.{WireFault}
 use Rattle.digest_core.specs.declared.Digest.{Digest}
 use Rattle.digest_core.specs.Tagged.{created_id_of}
@@ -16,33 +16,29 @@ use Rattle.chain_messages.specs.declared.messages.Certificate.{Certificate}
 use Rattle.chain_messages.specs.declared.messages.Entry.{Entry}
 use Rattle.chain_messages.specs.declared.messages.Entry.TheVariants as entry
 use Rattle.schedule_text.specs.declared.words.Event.{Event}
-use Rattle.schedule_text.specs.declared.words.Event.TheVariants as event
 use Rattle.chain_types.specs.Digests.{transaction_digest}
-use Rattle.chain_types.specs.Transactions as transactions
-use Rattle.chain_messages.specs.Messages as messages
 use Rattle.protocol_spec.specs.Chain.Words.{Has, Each}
 use Rattle.protocol_spec.specs.Chain.Committee.{weight, weight_of, total_of, is_quorum, is_roll}
 use Rattle.protocol_spec.specs.Chain.Certificates.{Rules, accepts_statement, read_signed, read_certificate, read_entry, vote_of, cert_refusal}
 use Rattle.protocol_spec.specs.Member.Calls.{Call, votes, holds, sees, runs, closes, ends, turns, acks}
 use Rattle.world_spec.specs.Setting.{Setting}
 use Rattle.world_spec.specs.World.{Made, Formed, World, new_world, called_if, is_honest, member_at, next_call}
-use Rattle.world_spec.specs.Names.{made_named, cert_named, draws}
+use Rattle.world_spec.specs.Names.{made_named, draws}
+use Rattle.world_spec.specs.Moves.{Move, requests, delivers, claims, Claim, claims_vote, claims_ack, signed_call, held_call, requested, move_of}
 use Rattle.world_spec.specs.Step.{happens, entries_left}
 use Rattle.world_spec.specs.Run.{world_after}
 
 -- ---- what reaches the members
 
-abbrev pub vote_call : Option Made → List Call
-vote_call None = []
-vote_call (Some t) = votes (transactions.signed.spell t.signed) ∷ []
-
-abbrev pub send_call : Option Certificate → List Call
-send_call None = []
-send_call (Some c) = holds (messages.certificate.spell c) ∷ []
-
 abbrev pub call_list : Option Call → List Call
 call_list None = []
 call_list (Some call) = call ∷ []
+
+abbrev pub vote_call : Option Made → List Call
+vote_call t = call_list (option_map signed_call t)
+
+abbrev pub send_call : Option Certificate → List Call
+send_call c = call_list (option_map held_call c)
 
 -- the entries that a member takes, one after the other
 abbrev pub see_calls : Setting → ℕ → World → ℕ → List Call
@@ -53,28 +49,21 @@ abbrev pub ack_call : Option Made → List Call
 ack_call None = []
 ack_call (Some t) = acks t.digest ∷ []
 
+-- an acknowledgement is asked for; a faulty member gives it as it likes
+abbrev pub claim_calls : Claim → Option Made → List Call
+claim_calls (claims_vote origins) t = []
+claim_calls (claims_ack spoiled) t = ack_call t
+
+-- the calls that a move makes on its member, in order
+abbrev pub calls_by : Setting → World → Move → List Call
+calls_by s w (requests m ask) = call_list (requested w ask)
+calls_by s w (delivers m entries) = see_calls s (min entries (entries_left w (member_at s w m))) w m
+calls_by s w (claims m tx claim) = claim_calls claim (made_named w tx)
+calls_by s w mv = []
+
 -- the calls that a line makes on its member, in order
 abbrev pub calls_of : Setting → World → Event → List Call
-calls_of s w (event.Tx name sender spoiled epoch gas budget inputs commands) = []
-calls_of s w (event.Vote m tx) = vote_call (made_named w tx)
-calls_of s w (event.Fvote m tx origins) = []
-calls_of s w (event.Cert tx members) = []
-calls_of s w (event.Send m tx) = send_call (cert_named w tx)
-calls_of s w (event.Order tx) = []
-calls_of s w (event.OrderEnd m) = []
-calls_of s w event.OrderCommit = []
-calls_of s w (event.See m entries) = see_calls s (min entries (entries_left w (member_at s w m))) w m
-calls_of s w (event.Run m workers) = runs ∷ []
-calls_of s w (event.Close m) = closes ∷ []
-calls_of s w (event.End m) = ends ∷ []
-calls_of s w (event.Turn m) = turns ∷ []
-calls_of s w (event.Show m) = []
-calls_of s w (event.Stop m kept) = []
-calls_of s w (event.Restart m) = []
-calls_of s w (event.RawVote m bytes) = votes bytes ∷ []
-calls_of s w (event.RawHold m bytes) = holds bytes ∷ []
-calls_of s w (event.Ack m tx spoiled) = ack_call (made_named w tx)
-calls_of s w (event.Final tx members) = []
+calls_of s w e = calls_by s w (move_of e)
 
 abbrev pub read_list : {A : Type 0} → Result A WireFault → List A
 read_list (Ok x) = x ∷ []

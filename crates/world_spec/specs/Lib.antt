@@ -2,6 +2,7 @@ pub mod Setting
 pub mod World
 pub mod Names
 pub mod Making
+pub mod Moves
 pub mod Step
 pub mod Report
 pub mod Run

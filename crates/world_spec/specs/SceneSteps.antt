@@ -6,7 +6,6 @@ use Rattle.quorum_core.specs.declared.signer.Signer.{Signer}
 use Rattle.chain_types.specs.declared.objects.ObjectKey.{ObjectKey}
 use Rattle.chain_types.specs.Transactions as transactions
 use Rattle.chain_messages.specs.declared.messages.Certificate.{Certificate}
-use Rattle.chain_messages.specs.declared.messages.Entry.TheVariants as entry
 use Rattle.chain_messages.specs.declared.messages.Statement.{Statement}
 use Rattle.chain_messages.specs.declared.messages.Statement.TheVariants as statement
 use Rattle.chain_messages.specs.Messages as messages
@@ -32,7 +31,8 @@ use Rattle.world_spec.specs.Setting.{Name, Trust}
 use Rattle.world_spec.specs.World.{Made, Reached, World, is_honest, next_call_of, said_by, sealed_by}
 use Rattle.world_spec.specs.Names.{made_named, cert_named, tx_name}
 use Rattle.world_spec.specs.Making.{TxLine, digest_or_zero, held_digest, spoiled_if}
-use Rattle.world_spec.specs.Step.{appended_entry, end_ordered, entries_left, executed_digest, formed, fvoted, open_entries, ordered}
+use Rattle.world_spec.specs.Moves.{Move, looks_on, makes_tx, requests, delivers, claims, certifies, submits, submits_end, arms_stop, starts_again, Claim, claims_vote, claims_ack, requested, move_of}
+use Rattle.world_spec.specs.Step.{end_ordered, entries_left, executed_digest, formed, fvoted, open_entries, submitted}
 use Rattle.world_spec.specs.Report.{Lines, ack_reached, and_lines, cert_lines, close_reached, end_reached, entry_reached, final_lines, fvote_lines, hold_reached, none_taken, order_end_said, order_said, run_reached, shown, turn_reached, vote_reached}
 use Rattle.world_spec.specs.Known.{with_line}
 use Rattle.world_spec.specs.MadeLines.{line_made}
@@ -73,15 +73,10 @@ voted_scene seal r sc m bytes = record sc {
   said = sc.said ++ map (sealed_by seal m) (stated_in r (votes bytes) (reached_in r sc.posts m (votes bytes)));
 }
 
-abbrev pub voted_in : (Signer → List ℕ → Digest) → Rules → Scene → ℕ → Option Made → Scene
-voted_in seal r sc m None = sc
-voted_in seal r sc m (Some t) = voted_scene seal r sc m (transactions.signed.spell t.signed)
-
-abbrev pub signed_call : Made → Call
-signed_call t = votes (transactions.signed.spell t.signed)
-
-abbrev pub held_call : Certificate → Call
-held_call c = holds (messages.certificate.spell c)
+-- after any call
+abbrev pub asked_scene : (Signer → List ℕ → Digest) → Rules → Scene → ℕ → Call → Scene
+asked_scene seal r sc m (votes bytes) = voted_scene seal r sc m bytes
+asked_scene seal r sc m call = called_scene r sc m call
 
 -- ---- see
 
@@ -135,33 +130,25 @@ abbrev pub ack_work : Scene → ℕ → Option Made → Work
 ack_work sc m None = idle
 ack_work sc m (Some t) = if is_honest (bare_world sc) m then asks m (acks t.digest) else idle
 
+-- a faulty member is handed nothing for its claim
+abbrev pub claim_work : Scene → ℕ → Claim → Option Made → Work
+claim_work sc m (claims_vote origins) t = idle
+claim_work sc m (claims_ack spoiled) t = ack_work sc m t
+
+abbrev pub work_by : Scene → Move → Work
+work_by sc (requests m ask) = asked m (requested (bare_world sc) ask)
+work_by sc (delivers m entries) = hands m (min entries (entries_left (bare_world sc) (state_at sc m)))
+work_by sc (claims m tx claim) = claim_work sc m claim (made_named (bare_world sc) tx)
+work_by sc mv = idle
+
 unfoldable pub work_of : Scene → Event → Work
-work_of sc (event.Tx name sender spoiled epoch gas budget inputs commands) = idle
-work_of sc (event.Vote m tx) = asked m (option_map signed_call (made_named (bare_world sc) tx))
-work_of sc (event.Fvote m tx origins) = idle
-work_of sc (event.Cert tx members) = idle
-work_of sc (event.Send m tx) = asked m (option_map held_call (cert_named (bare_world sc) tx))
-work_of sc (event.Order tx) = idle
-work_of sc (event.OrderEnd m) = idle
-work_of sc event.OrderCommit = idle
-work_of sc (event.See m entries) = hands m (min entries (entries_left (bare_world sc) (state_at sc m)))
-work_of sc (event.Run m workers) = asks m runs
-work_of sc (event.Close m) = asks m closes
-work_of sc (event.End m) = asks m ends
-work_of sc (event.Turn m) = asks m turns
-work_of sc (event.Show m) = idle
-work_of sc (event.Stop m kept) = idle
-work_of sc (event.Restart m) = idle
-work_of sc (event.RawVote m bytes) = asks m (votes bytes)
-work_of sc (event.RawHold m bytes) = asks m (holds bytes)
-work_of sc (event.Ack m tx spoiled) = ack_work sc m (made_named (bare_world sc) tx)
-work_of sc (event.Final tx members) = idle
+work_of sc e = work_by sc (move_of e)
 
 -- the scene after it
-abbrev pub worked : Rules → Scene → Work → Scene
-worked r sc idle = sc
-worked r sc (asks m call) = called_scene r sc m call
-worked r sc (hands m n) = sees_to r n sc m
+abbrev pub worked : (Signer → List ℕ → Digest) → Rules → Scene → Work → Scene
+worked seal r sc idle = sc
+worked seal r sc (asks m call) = asked_scene seal r sc m call
+worked seal r sc (hands m n) = sees_to r n sc m
 
 -- the records that it leaves, oldest first, and whose they are
 abbrev pub records_left : Rules → Scene → Work → Option (ℕ × List Record)
@@ -198,28 +185,25 @@ abbrev pub acked_in : Rules → Scene → ℕ → Bool → Option Made → Scene
 acked_in r sc m spoiled None = sc
 acked_in r sc m spoiled (Some t) = if is_honest (bare_world sc) m then called_scene r sc m (acks t.digest) else record sc { said = sc.said ++ said_by m (false_ack_in sc t spoiled) ∷ [] }
 
+abbrev pub claimed_in : Trust → Scene → ℕ → Claim → Option Made → Scene
+claimed_in trust sc m (claims_vote origins) t = record sc { said = (fvoted (bare_setting trust sc) (bare_world sc) m origins t).said }
+claimed_in trust sc m (claims_ack spoiled) t = acked_in (rules_in trust.accepts sc) sc m spoiled t
+
+-- the scene after a move
+abbrev pub steps_by : Trust → Scene → Move → Scene
+steps_by trust sc looks_on = sc
+steps_by trust sc (makes_tx l) = with_tx trust sc l
+steps_by trust sc (requests m ask) = worked trust.seal (rules_in trust.accepts sc) sc (work_by sc (requests m ask))
+steps_by trust sc (delivers m entries) = worked trust.seal (rules_in trust.accepts sc) sc (work_by sc (delivers m entries))
+steps_by trust sc (claims m tx claim) = claimed_in trust sc m claim (made_named (bare_world sc) tx)
+steps_by trust sc (certifies tx members) = record sc { certs = (formed (bare_setting trust sc) (bare_world sc) members (made_named (bare_world sc) tx)).certs }
+steps_by trust sc (submits x) = with_order sc (submitted (bare_world sc) x)
+steps_by trust sc (submits_end m) = with_order sc (end_ordered (bare_setting trust sc) (bare_world sc) m)
+steps_by trust sc (arms_stop m kept) = record sc { posts = armed_at sc.posts m kept }
+steps_by trust sc (starts_again m) = sc
+
 unfoldable pub steps_to : Trust → Scene → Event → Scene
-steps_to trust sc (event.Tx name sender spoiled epoch gas budget inputs commands) =
-    with_tx trust sc (record { name = name; sender = sender; spoiled = spoiled; epoch = epoch; gas = gas; budget = budget; inputs = inputs; commands = commands })
-steps_to trust sc (event.Vote m tx) = voted_in trust.seal (rules_in trust.accepts sc) sc m (made_named (bare_world sc) tx)
-steps_to trust sc (event.Fvote m tx origins) = record sc { said = (fvoted (bare_setting trust sc) (bare_world sc) m origins (made_named (bare_world sc) tx)).said }
-steps_to trust sc (event.Cert tx members) = record sc { certs = (formed (bare_setting trust sc) (bare_world sc) members (made_named (bare_world sc) tx)).certs }
-steps_to trust sc (event.Send m tx) = worked (rules_in trust.accepts sc) sc (work_of sc (event.Send m tx))
-steps_to trust sc (event.Order tx) = with_order sc (ordered (bare_world sc) (cert_named (bare_world sc) tx))
-steps_to trust sc (event.OrderEnd m) = with_order sc (end_ordered (bare_setting trust sc) (bare_world sc) m)
-steps_to trust sc event.OrderCommit = with_order sc (appended_entry (bare_world sc) entry.Commit)
-steps_to trust sc (event.See m entries) = worked (rules_in trust.accepts sc) sc (work_of sc (event.See m entries))
-steps_to trust sc (event.Run m workers) = called_scene (rules_in trust.accepts sc) sc m runs
-steps_to trust sc (event.Close m) = called_scene (rules_in trust.accepts sc) sc m closes
-steps_to trust sc (event.End m) = called_scene (rules_in trust.accepts sc) sc m ends
-steps_to trust sc (event.Turn m) = called_scene (rules_in trust.accepts sc) sc m turns
-steps_to trust sc (event.Show m) = sc
-steps_to trust sc (event.Stop m kept) = record sc { posts = armed_at sc.posts m kept }
-steps_to trust sc (event.Restart m) = sc
-steps_to trust sc (event.RawVote m bytes) = voted_scene trust.seal (rules_in trust.accepts sc) sc m bytes
-steps_to trust sc (event.RawHold m bytes) = called_scene (rules_in trust.accepts sc) sc m (holds bytes)
-steps_to trust sc (event.Ack m tx spoiled) = acked_in (rules_in trust.accepts sc) sc m spoiled (made_named (bare_world sc) tx)
-steps_to trust sc (event.Final tx members) = sc
+steps_to trust sc e = steps_by trust sc (move_of e)
 
 -- ---- the lines
 

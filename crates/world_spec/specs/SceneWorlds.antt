@@ -1,10 +1,9 @@
 -- The scene of a world, and observable records. Source: this profile.
-use Rattle.std.specs.Prelude.{◌≡◌, ◌<◌, ◌≤◌, ℕ, length, Bool, true, false, List, [], ◌++◌, map, slice_get, Option, Some, None, Ok, if◌then◌else◌}
+use Rattle.std.specs.Prelude.{◌≡◌, ◌<◌, ◌≤◌, ℕ, length, Bool, List, [], ◌++◌, map, slice_get, Option, Some, None, Ok, if◌then◌else◌}
 use Rattle.journal_core.specs.declared.records.Record.{Record}
 use Rattle.journal_core.specs.Records as journals
 use Rattle.outside.specs.Lists.{Journals, journal_of}
 use Rattle.schedule_text.specs.declared.words.Event.{Event}
-use Rattle.schedule_text.specs.declared.words.Event.TheVariants as event
 use Rattle.chain_types.specs.declared.transactions.SignedTx.{SignedTx}
 use Rattle.chain_types.specs.Transactions as transactions
 use Rattle.chain_messages.specs.declared.messages.Certificate.{Certificate}
@@ -20,6 +19,7 @@ use Rattle.world_spec.specs.World as worlds
 use Rattle.world_spec.specs.World.{World, member_in, placed}
 use Rattle.world_spec.specs.Run.{records_of}
 use Rattle.world_spec.specs.Known.{names_of}
+use Rattle.world_spec.specs.Moves.{is_start_move, move_of}
 use Rattle.world_spec.specs.Terms.{rules_for, terms_of}
 use Rattle.world_spec.specs.Seats.{Seated}
 use Rattle.world_spec.specs.Starts.{started}
@@ -58,26 +58,7 @@ pub record Shows (trust : Trust) (s : Setting) (w : World) (sc : Scene) : Type 0
 
 -- a line that reads records
 abbrev pub is_restart : Event → Bool
-is_restart (event.Tx name sender spoiled epoch gas budget inputs commands) = false
-is_restart (event.Vote m tx) = false
-is_restart (event.Fvote m tx origins) = false
-is_restart (event.Cert tx members) = false
-is_restart (event.Send m tx) = false
-is_restart (event.Order tx) = false
-is_restart (event.OrderEnd m) = false
-is_restart event.OrderCommit = false
-is_restart (event.See m entries) = false
-is_restart (event.Run m workers) = false
-is_restart (event.Close m) = false
-is_restart (event.End m) = false
-is_restart (event.Turn m) = false
-is_restart (event.Show m) = false
-is_restart (event.Stop m kept) = false
-is_restart (event.Restart m) = true
-is_restart (event.RawVote m bytes) = false
-is_restart (event.RawHold m bytes) = false
-is_restart (event.Ack m tx spoiled) = false
-is_restart (event.Final tx members) = false
+is_restart e = is_start_move (move_of e)
 
 -- ---- records
 

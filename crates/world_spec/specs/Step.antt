@@ -11,10 +11,8 @@ use Rattle.chain_messages.specs.declared.messages.Certificate.{Certificate}
 use Rattle.chain_messages.specs.declared.messages.Entry.{Entry}
 use Rattle.chain_messages.specs.declared.messages.Entry.TheVariants as entry
 use Rattle.schedule_text.specs.declared.words.Event.{Event}
-use Rattle.schedule_text.specs.declared.words.Event.TheVariants as event
 use Rattle.chain_types.specs.Equal.{digest_eq}
 use Rattle.effects_core.specs.Effects.{digest_of_effects}
-use Rattle.chain_types.specs.Transactions as transactions
 use Rattle.chain_messages.specs.Messages as messages
 use Rattle.protocol_spec.specs.Chain.Words.{first_some, first_of, where_true}
 use Rattle.protocol_spec.specs.Chain.Tests.{origins_eq}
@@ -24,11 +22,12 @@ use Rattle.protocol_spec.specs.Chain.Collecting.{Collected, lacks, short, differ
 use Rattle.protocol_spec.specs.Member.Versions.{Execution, execution_of}
 use Rattle.protocol_spec.specs.Member.Sequence.{seen}
 use Rattle.protocol_spec.specs.Member.Member.{Member}
-use Rattle.protocol_spec.specs.Member.Calls.{votes, holds, runs, closes, ends, turns, acks}
+use Rattle.protocol_spec.specs.Member.Calls.{acks}
 use Rattle.world_spec.specs.Setting.{Name, Setting, member_seal}
-use Rattle.world_spec.specs.World.{Seat, Said, Made, World, WorldOf, Seating, arms, starts, sealed_by, with_seat, called_over, honest_in, seat_honest, member_over, says_over, by_records, entries_at, sees_over, list_or_none}
+use Rattle.world_spec.specs.World.{Seat, Said, Made, World, WorldOf, Seating, arms, starts, sealed_by, with_seat, called_over, honest_in, seat_honest, member_over, says_over, by_records, entries_at, if_called, sees_over, list_or_none}
 use Rattle.world_spec.specs.Names.{made_named, cert_named}
 use Rattle.world_spec.specs.Making.{made_over, digest_named, spoiled_if, digest_or_zero}
+use Rattle.world_spec.specs.Moves.{Move, looks_on, makes_tx, requests, delivers, claims, certifies, submits, submits_end, arms_stop, starts_again, Claim, claims_vote, claims_ack, Submission, cert_submitted, mark_submitted, requested, move_of}
 
 -- ---- statements
 
@@ -230,43 +229,31 @@ acked s w m spoiled t = acked_over (by_records s) s.rules w m spoiled t
 
 -- ---- the step
 
-abbrev pub voted_over : {S : Type 0} → Seating S → Rules → WorldOf S → ℕ → Option Made → WorldOf S
-voted_over k r w m None = w
-voted_over k r w m (Some t) = called_over k r w m (votes (transactions.signed.spell t.signed))
+-- a faulty member claims it; an honest one acknowledges, if it is asked to
+abbrev pub claimed_over : {S : Type 0} → Seating S → Setting → WorldOf S → ℕ → Claim → Option Made → WorldOf S
+claimed_over k s w m (claims_vote origins) t = fvoted_by k.honest s w m origins t
+claimed_over k s w m (claims_ack spoiled) t = acked_over k s.rules w m spoiled t
 
-abbrev pub voted_on : Setting → World → ℕ → Option Made → World
-voted_on s w m t = voted_over (by_records s) s.rules w m t
+abbrev pub submitted : {S : Type 0} → WorldOf S → Submission → WorldOf S
+submitted w (cert_submitted tx) = ordered w (cert_named w tx)
+submitted w mark_submitted = appended_entry w entry.Commit
 
-abbrev pub sent_over : {S : Type 0} → Seating S → Rules → WorldOf S → ℕ → Option Certificate → WorldOf S
-sent_over k r w m None = w
-sent_over k r w m (Some c) = called_over k r w m (holds (messages.certificate.spell c))
-
-abbrev pub sent : Setting → World → ℕ → Option Certificate → World
-sent s w m c = sent_over (by_records s) s.rules w m c
+-- the world after a move
+abbrev pub moved : {S : Type 0} → Seating S → Setting → WorldOf S → Move → WorldOf S
+moved k s w looks_on = w
+moved k s w (makes_tx l) = made_over k s w l
+moved k s w (requests m ask) = if_called k s.rules w m (requested w ask)
+moved k s w (delivers m entries) = sees_over k s.rules (min entries (entries_left w (member_over k w m))) w m
+moved k s w (claims m tx claim) = claimed_over k s w m claim (made_named w tx)
+moved k s w (certifies tx members) = formed s w members (made_named w tx)
+moved k s w (submits x) = submitted w x
+moved k s w (submits_end m) = end_by k.honest s w m
+moved k s w (arms_stop m kept) = on_seat w m (λ seat. k.acts seat (arms kept)) (slice_get w.seats m)
+moved k s w (starts_again m) = on_seat w m (λ seat. k.acts seat starts) (slice_get w.seats m)
 
 -- the world after a line
 unfoldable pub happens_over : {S : Type 0} → Seating S → Setting → WorldOf S → Event → WorldOf S
-happens_over k s w (event.Tx name sender spoiled epoch gas budget inputs commands) =
-    made_over k s w (record { name = name; sender = sender; spoiled = spoiled; epoch = epoch; gas = gas; budget = budget; inputs = inputs; commands = commands })
-happens_over k s w (event.Vote m tx) = voted_over k s.rules w m (made_named w tx)
-happens_over k s w (event.Fvote m tx origins) = fvoted_by k.honest s w m origins (made_named w tx)
-happens_over k s w (event.Cert tx members) = formed s w members (made_named w tx)
-happens_over k s w (event.Send m tx) = sent_over k s.rules w m (cert_named w tx)
-happens_over k s w (event.Order tx) = ordered w (cert_named w tx)
-happens_over k s w (event.OrderEnd m) = end_by k.honest s w m
-happens_over k s w event.OrderCommit = appended_entry w entry.Commit
-happens_over k s w (event.See m entries) = sees_over k s.rules (min entries (entries_left w (member_over k w m))) w m
-happens_over k s w (event.Run m workers) = called_over k s.rules w m runs
-happens_over k s w (event.Close m) = called_over k s.rules w m closes
-happens_over k s w (event.End m) = called_over k s.rules w m ends
-happens_over k s w (event.Turn m) = called_over k s.rules w m turns
-happens_over k s w (event.Show m) = w
-happens_over k s w (event.Stop m kept) = on_seat w m (λ seat. k.acts seat (arms kept)) (slice_get w.seats m)
-happens_over k s w (event.Restart m) = on_seat w m (λ seat. k.acts seat starts) (slice_get w.seats m)
-happens_over k s w (event.RawVote m bytes) = called_over k s.rules w m (votes bytes)
-happens_over k s w (event.RawHold m bytes) = called_over k s.rules w m (holds bytes)
-happens_over k s w (event.Ack m tx spoiled) = acked_over k s.rules w m spoiled (made_named w tx)
-happens_over k s w (event.Final tx members) = w
+happens_over k s w e = moved k s w (move_of e)
 
 abbrev pub happens : Setting → World → Event → World
 happens s w e = happens_over (by_records s) s w e
