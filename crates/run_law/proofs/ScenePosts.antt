@@ -150,21 +150,6 @@ module _ (s : Setting) where
       ∙ ap (λ (posts : List Post). with_both w posts (called_in s w m call).said) (sym (posts-same w m call))
       ∙ ap (λ (said : List Said). with_both w (posts_behind s.rules (posts_from s 0 w.seats) m call) said) (sym (said-same w m call))
 
-  -- ---- nothing is ordered
-
-  open-left : (w : World) (m : ℕ) (call : Call) (seat : worlds.Seat) (r : Reached) → (behind s w m call seat r).sequences ≡ w.sequences
-  open-left w m call seat finds_down = refl
-  open-left w m call seat (stops kept x) = refl
-  open-left w m call seat (answers before x) = refl
-
-  open-where : (w : World) (m : ℕ) (call : Call) (seat : Option worlds.Seat) → (called_seat s w m call seat).sequences ≡ w.sequences
-  open-where w m call None = refl
-  open-where w m call (Some seat) = open-left w m call seat (reached_seat s call seat)
-
-  pub called-open : (w : World) (m : ℕ) (call : Call) → (called_in s w m call).sequences ≡ w.sequences
-  unfolding called_over
-  called-open w m call = open-where w m call (slice_get w.seats m)
-
   -- ---- one seat changes
 
   module _ (w : World) (m : ℕ) (change : worlds.Seat → worlds.Seat) (post : Post → Post) where
@@ -185,10 +170,3 @@ module _ (s : Setting) where
         scene-on (slice_get w.seats m)
         ∙ ap (λ (posts : List Post). record (scene_of s w) { posts = posts })
         (sym (posts-on (slice_get w.seats m) same) ∙ ap (λ (p : Option Post). changed_at (posts_from s 0 w.seats) m post p) (sym (posts-get s 0 w.seats m)))
-
-    on-open : (seat : Option worlds.Seat) → (on_seat w m change seat).sequences ≡ w.sequences
-    on-open None = refl
-    on-open (Some seat) = refl
-
-    pub changed-open : (on_seat w m change (slice_get w.seats m)).sequences ≡ w.sequences
-    changed-open = on-open (slice_get w.seats m)
