@@ -45,7 +45,8 @@ use Rattle.world_spec.specs.Setting.{Name, Setting, User}
 use Rattle.world_spec.specs.World.{Made, Drawn, WorldOf, Seating, Deed, keeps, halts, arms, starts, Reached, finds_down, stops, answers, reached_up, reached_by, reached_where, reached_over, behind_over, called_where, called_over, member_over, next_call_of, next_over, if_called, sees_over, with_seat, state_in, placed, reseated, seat_is, honest_in, says_over, sealed_by, stated}
 use Rattle.world_spec.specs.Names.{made_named, cert_named, drawn_by}
 use Rattle.world_spec.specs.Making.{TxLine, digest_or_zero, drawn_input, drawn_list, drawn_word, held_digest, id_of, input_over, made_as, made_over, ref_over, reference_over, spoiled_if, transaction_over, with_made}
-use Rattle.world_spec.specs.Step.{acked_over, appended_entry, end_by, end_in, entries_left, executed_digest, false_ack_over, formed, formed_as, fvoted_by, happens_over, has_ended, honest_end, last_said, no_origins, on_seat, open_entries, ordered, ordered_end, origin_word, origins_by, origins_or, risen_if, says, sealed_end, sent_over, vote_by, vote_in, voted_over, votes_collected}
+use Rattle.world_spec.specs.Moves.{Move, looks_on, makes_tx, requests, delivers, claims, certifies, submits, submits_end, arms_stop, starts_again, Request, vote_named, hold_named, direct, claims_vote, claims_ack, cert_submitted, mark_submitted, is_start_move, move_of, requested}
+use Rattle.world_spec.specs.Step.{acked_over, appended_entry, end_by, end_in, entries_left, executed_digest, false_ack_over, formed, formed_as, fvoted_by, happens_over, has_ended, honest_end, last_said, moved, no_origins, on_seat, open_entries, ordered, ordered_end, origin_word, origins_by, origins_or, risen_if, says, sealed_end, vote_by, vote_in, votes_collected}
 use Rattle.world_spec.specs.Report.{Lines, ack_lines, ack_reached, ack_said, acks_collected, and_lines, call_lines, cert_lines, close_reached, end_reached, entries_lines, entry_reached, final_lines, fvote_lines_by, hold_reached, hold_said, honest_end_said, lines_over, none_taken, order_end_by, order_said, origin_name, origin_names, run_reached, see_halted, see_up, send_said, show_up, turn_reached, vote_lines, vote_reached, vote_said}
 use Rattle.world_spec.specs.SceneWorlds.{is_restart}
 use Rattle.world_spec.proofs.LineWorlds.{ack_same, close_same, end_same, hold_same, run_same, see_same, shown_same, turn_same, vote_same}
@@ -265,15 +266,12 @@ module _ {A B : Type 0} (a : Seating A) (b : Seating B) (h : ℕ → A → B) (s
       ap (λ (v : WorldOf A). look v) (asleep-sees a r (min entries (entries_left w (member_over a w m))) w m down)
       ∙ sym (asleep-sees b r (min entries (entries_left (look w) (member_over b (look w) m))) (look w) m (down-there w m down))
 
-  -- ---- votes, sends, certificates, stops
+  -- ---- requests, certificates, stops
 
-  voted-looks : (w : WorldOf A) (m : ℕ) (x : Option Made) → look (voted_over a r w m x) ≡ voted_over b r (look w) m x
-  voted-looks w m None = refl
-  voted-looks w m (Some x) = called-looks w m (votes (transactions.signed.spell x.signed))
-
-  sent-looks : (w : WorldOf A) (m : ℕ) (c : Option Certificate) → look (sent_over a r w m c) ≡ sent_over b r (look w) m c
-  sent-looks w m None = refl
-  sent-looks w m (Some c) = called-looks w m (holds (messages.certificate.spell c))
+  requested-looks : (w : WorldOf A) (ask : Request) → requested w ask ≡ requested (look w) ask
+  requested-looks w (vote_named tx) = refl
+  requested-looks w (hold_named tx) = refl
+  requested-looks w (direct call) = refl
 
   formed-as : (w : WorldOf A) (x : Made) (ms : List ℕ) (c : Collected) → look (formed_as w x ms c) ≡ formed_as (look w) x ms c
   formed-as w x ms (lacks m) = refl
@@ -439,31 +437,25 @@ module _ {A B : Type 0} (a : Seating A) (b : Seating B) (h : ℕ → A → B) (s
       acks-if w m x spoiled (honest_in a.honest w m)
       ∙ ap (λ (honest : Bool). cond honest (called_over b r (look w) m (acks x.digest)) (says b.seal (look w) m (false_ack_over b (look w) x spoiled))) (honest-looks w m)
 
-  -- ---- each line but a restart
+  -- ---- each move but a start, and each line but a restart
+
+  move-looks : (w : WorldOf A) (mv : Move) → is_start_move mv ≡ false → look (moved a s w mv) ≡ moved b t (look w) mv
+  move-looks w looks_on other = refl
+  move-looks w (makes_tx l) other = made-looks w l
+  move-looks w (requests m ask) other = if-looks w m (requested w ask) ∙ ap (λ (call : Option Call). if_called b r (look w) m call) (requested-looks w ask)
+  move-looks w (delivers m entries) other = see-by w m entries (stands a w m)
+  move-looks w (claims m tx (claims_vote origins)) other = fvoted-looks w m origins (made_named w tx)
+  move-looks w (claims m tx (claims_ack spoiled)) other = acked-looks w m spoiled (made_named w tx)
+  move-looks w (certifies tx members) other = formed-looks w members (made_named w tx)
+  move-looks w (submits (cert_submitted tx)) other = order-looks w (cert_named w tx)
+  move-looks w (submits mark_submitted) other = refl
+  move-looks w (submits_end m) other = end-order-looks w m
+  move-looks w (arms_stop m kept) other = stop-looks w m kept
+  move-looks w (starts_again m) other = absurd (cc)
 
   pub step-looks : (w : WorldOf A) (e : Event) → is_restart e ≡ false → look (happens_over a s w e) ≡ happens_over b t (look w) e
   unfolding happens_over
-  step-looks w (event.Tx name sender spoiled epoch gas budget inputs commands) other =
-      made-looks w (record { name = name; sender = sender; spoiled = spoiled; epoch = epoch; gas = gas; budget = budget; inputs = inputs; commands = commands })
-  step-looks w (event.Vote m tx) other = voted-looks w m (made_named w tx)
-  step-looks w (event.Fvote m tx origins) other = fvoted-looks w m origins (made_named w tx)
-  step-looks w (event.Cert tx members) other = formed-looks w members (made_named w tx)
-  step-looks w (event.Send m tx) other = sent-looks w m (cert_named w tx)
-  step-looks w (event.Order tx) other = order-looks w (cert_named w tx)
-  step-looks w (event.OrderEnd m) other = end-order-looks w m
-  step-looks w event.OrderCommit other = refl
-  step-looks w (event.See m entries) other = see-by w m entries (stands a w m)
-  step-looks w (event.Run m workers) other = called-looks w m runs
-  step-looks w (event.Close m) other = called-looks w m closes
-  step-looks w (event.End m) other = called-looks w m ends
-  step-looks w (event.Turn m) other = called-looks w m turns
-  step-looks w (event.Show m) other = refl
-  step-looks w (event.Stop m kept) other = stop-looks w m kept
-  step-looks w (event.Restart m) other = absurd (cc)
-  step-looks w (event.RawVote m bytes) other = called-looks w m (votes bytes)
-  step-looks w (event.RawHold m bytes) other = called-looks w m (holds bytes)
-  step-looks w (event.Ack m tx spoiled) other = acked-looks w m spoiled (made_named w tx)
-  step-looks w (event.Final tx members) other = refl
+  step-looks w e other = move-looks w (move_of e) other
 
   -- ---- what is said of answers
 
@@ -638,14 +630,12 @@ module _ {A B : Type 0} (a : Seating A) (b : Seating B) (h : ℕ → A → B) (s
 
   pub lines-look : (w : WorldOf A) (e : Event) → is_restart e ≡ false → lines_over a s w e ≡ lines_over b t (look w) e
   unfolding lines_over
-  lines-look w (event.Tx name sender spoiled epoch gas budget inputs commands) other = refl
   lines-look w (event.Vote m tx) other = vote-lines w m tx (made_named w tx)
   lines-look w (event.Fvote m tx origins) other = fvote-lines w m tx origins (made_named w tx)
   lines-look w (event.Cert tx members) other = cert-lines w tx members (made_named w tx)
   lines-look w (event.Send m tx) other = ap (λ (text : SendText). line.Send m tx text ∷ []) (send-said w m (cert_named w tx))
   lines-look w (event.Order tx) other = ap (λ (text : OrderText). line.Order tx text ∷ []) (order-text w (cert_named w tx))
   lines-look w (event.OrderEnd m) other = ap (λ (text : OrderEndText). line.OrderEnd m text ∷ []) (end-order-text w m)
-  lines-look w event.OrderCommit other = refl
   lines-look w (event.See m entries) other = see-look w m entries (stands a w m)
   lines-look w (event.Run m workers) other = run-text w m (reached_over a r w m runs) ∙ ap (λ (o : Reached). run_reached t (look w) m o) (reached-same w m runs)
   lines-look w (event.Close m) other =
@@ -654,9 +644,9 @@ module _ {A B : Type 0} (a : Seating A) (b : Seating B) (h : ℕ → A → B) (s
       ap (λ (text : EndText). line.End m text ∷ []) (end-text w (reached_over a r w m ends) ∙ ap (λ (o : Reached). end_reached t (look w) o) (reached-same w m ends))
   lines-look w (event.Turn m) other = turn-text w m (reached_over a r w m turns) ∙ ap (λ (o : Reached). turn_reached t (look w) m o) (reached-same w m turns)
   lines-look w (event.Show m) other = show-look w m (stands a w m)
-  lines-look w (event.Stop m kept) other = refl
   lines-look w (event.Restart m) other = absurd (cc)
   lines-look w (event.RawVote m bytes) other = ap (λ (text : VoteText). line.RawVote m text ∷ []) (vote-said w m bytes)
   lines-look w (event.RawHold m bytes) other = ap (λ (text : SendText). line.RawHold m text ∷ []) (hold-said w m bytes)
   lines-look w (event.Ack m tx spoiled) other = ack-lines w m tx (made_named w tx)
   lines-look w (event.Final tx members) other = final-look w tx members (made_named w tx)
+  lines-look w e other = refl

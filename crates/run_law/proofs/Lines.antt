@@ -91,26 +91,16 @@ of-show s w m false member = omega arith
 
 line-of : (s : Setting) (w : World) (e : Event) → IsLine (lines_of s w e)
 unfolding lines_over
-line-of s w (event.Tx name sender spoiled epoch gas budget inputs commands) = omega arith
 line-of s w (event.Vote m tx) = of-vote s w m tx (made_named w tx)
 line-of s w (event.Fvote m tx origins) = of-fvote w m tx origins (made_named w tx)
 line-of s w (event.Cert tx members) = of-cert s w tx members (made_named w tx)
-line-of s w (event.Send m tx) = omega arith
-line-of s w (event.Order tx) = omega arith
-line-of s w (event.OrderEnd m) = omega arith
-line-of s w event.OrderCommit = omega arith
 line-of s w (event.See m entries) = of-see s w m entries (is_seat_up (slice_get w.seats m)) (member_at s w m)
 line-of s w (event.Run m workers) = of-run s w m (reached s w m runs)
-line-of s w (event.Close m) = omega arith
-line-of s w (event.End m) = omega arith
 line-of s w (event.Turn m) = of-turn s w m (reached s w m turns)
 line-of s w (event.Show m) = of-show s w m (is_seat_up (slice_get w.seats m)) (member_at s w m)
-line-of s w (event.Stop m kept) = omega arith
-line-of s w (event.Restart m) = omega arith
-line-of s w (event.RawVote m bytes) = omega arith
-line-of s w (event.RawHold m bytes) = omega arith
 line-of s w (event.Ack m tx spoiled) = of-ack s w m tx (made_named w tx)
 line-of s w (event.Final tx members) = of-final s w tx members (made_named w tx)
+line-of s w e = omega arith
 
 lines-from : (s : Setting) (events : List Event) (w : World) → length events ≤ length (report_from s events w)
 lines-from s [] w = omega arith

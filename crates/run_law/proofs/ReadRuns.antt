@@ -29,12 +29,13 @@ use Rattle.protocol_spec.specs.Chain.Collecting.{Collected, lacks, short, differ
 use Rattle.protocol_spec.specs.Chain.Words.{Each, first_some, first_of, where_true, last_where}
 use Rattle.protocol_spec.specs.Chain.Keys.{objects_of}
 use Rattle.protocol_spec.specs.Member.Member.{Member, state}
-use Rattle.protocol_spec.specs.Member.Calls.{Call, votes, holds, runs, closes, ends, turns, acks, due}
+use Rattle.protocol_spec.specs.Member.Calls.{Call, acks, due}
 use Rattle.world_spec.specs.Setting.{Name, Setting, member_seal as statement_seal, sender_seal}
-use Rattle.world_spec.specs.World.{Seat, Said, Made, Formed, World, Reached, finds_down, stops, answers, new_world, member_in, reached_up, reached_seat, behind, called_seat, called_in, called_if, sees_on, stated, is_honest, member_at, next_call, entries_at, list_or_none, called_over, armed_seat, started_seat, sealed_by, kept_seal}
+use Rattle.world_spec.specs.World.{Seat, Said, Made, Formed, World, Reached, finds_down, stops, answers, new_world, by_records, member_in, reached_up, reached_seat, behind, called_seat, called_in, called_if, sees_on, stated, is_honest, member_at, next_call, entries_at, list_or_none, called_over, armed_seat, started_seat, sealed_by, kept_seal}
 use Rattle.world_spec.specs.Names.{made_named, cert_named, cert_in}
 use Rattle.world_spec.specs.Making.{made_by_line, made_as, transaction_of, spoiled_if, TxLine, made_over, digest_or_zero}
-use Rattle.world_spec.specs.Step.{happens, says, vote_in, end_in, last_said, voted_on, origin_word, no_origins, origins_or, honest_vote, fvote_origins, fvoted, first_origins, certificate_of, votes_collected, formed_as, formed, sent, open_entries, ordered, sealed_end, appended_entry, has_ended, risen_if, ordered_end, honest_end, end_ordered, on_seat, entries_left, false_ack, acked, happens_over, collected_seal, last_seal, last_read, seal_in, the_seal}
+use Rattle.world_spec.specs.Moves.{Move, looks_on, makes_tx, requests, delivers, claims, certifies, submits, submits_end, arms_stop, starts_again, claims_vote, claims_ack, cert_submitted, mark_submitted, move_of, requested}
+use Rattle.world_spec.specs.Step.{happens, says, vote_in, end_in, last_said, moved, origin_word, no_origins, origins_or, honest_vote, fvote_origins, fvoted, first_origins, certificate_of, votes_collected, formed_as, formed, open_entries, ordered, sealed_end, appended_entry, has_ended, risen_if, ordered_end, honest_end, end_ordered, on_seat, entries_left, false_ack, acked, happens_over, collected_seal, last_seal, last_read, seal_in, the_seal}
 use Rattle.world_spec.specs.Run.{run, world_after}
 use Rattle.run_law.specs.Sayable.{IsMember, IsEvent}
 use Rattle.safety_law.proofs.InWorld.{each-set, kept-called, new-seats}
@@ -46,6 +47,31 @@ use Rattle.run_law.proofs.Fits.{IsFitMade, AreThings, IsFitLine, spoiled-digest,
 -- an event that a text can say, of at most this many words
 abbrev pub IsFitEvent : Event → Type 0
 IsFitEvent e = IsEvent e × IsShortEvent most_words e
+
+-- what is known of a move of such an event
+abbrev IsFitMove : Move → Type 0
+IsFitMove (makes_tx l) = IsFitLine l
+IsFitMove (claims m tx (claims_vote origins)) = length origins ≤ most_words
+IsFitMove (certifies tx members) = AllByRecursion IsMember members × (length members ≤ most_words)
+IsFitMove (submits_end m) = IsMember m
+IsFitMove mv = Unit {0}
+
+fit-move : (e : Event) → IsFitEvent e → IsFitMove (move_of e)
+fit-move (event.Tx name sender spoiled epoch gas budget inputs commands) is = record {
+  epoch = is.0.2;
+  gas = is.0.3;
+  budget = is.0.4;
+  inputs = is.0.5;
+  commands = is.0.6;
+  few_inputs = is.1.0;
+  short_inputs = is.1.1;
+  few_commands = is.1.2;
+  short_commands = is.1.3;
+}
+fit-move (event.Fvote m tx origins) is = is.1
+fit-move (event.Cert tx members) is = (is.0.2, is.1)
+fit-move (event.OrderEnd m) is = is.0
+fit-move e is = tt
 
 abbrev pub AreSeals : (Signer → List ℕ → Digest) → Type 0
 AreSeals seal = (signer : Signer) (bytes : List ℕ) → IsDigest (seal signer bytes)
@@ -376,14 +402,6 @@ module _ (s : Setting) (seals : AreSeals s.seal) (things : AreThings s.things) w
         epoch = f.epoch;
       }
 
-  voted-fit : (n : ℕ) (w : World) (m : ℕ) (t : Option Made) → IsFit s n w → IsFit s n (voted_on s w m t)
-  voted-fit n w m None f = f
-  voted-fit n w m (Some t) f = call-fit n w m (votes (transactions.signed.spell t.signed)) f
-
-  sent-fit : (n : ℕ) (w : World) (m : ℕ) (c : Option Certificate) → IsFit s n w → IsFit s n (sent s w m c)
-  sent-fit n w m None f = f
-  sent-fit n w m (Some c) f = call-fit n w m (holds (certificate.spell c)) f
-
   acked-fit : (n : ℕ) (w : World) (m : ℕ) (spoiled : Bool) (t : Option Made) → IsFit s n w → IsFit s n (acked s w m spoiled t)
   acked-fit n w m spoiled None f = f
   acked-fit n w m spoiled (Some t) f =
@@ -404,40 +422,23 @@ module _ (s : Setting) (seals : AreSeals s.seal) (things : AreThings s.things) w
 
   -- ---- each line, and all
 
+  move-fit : (n : ℕ) (w : World) (mv : Move) → n ≤ most_words → IsFitMove mv → IsFit s n w → IsFit s (suc n) (moved (by_records s) s w mv)
+  move-fit n w looks_on few is f = weaker n w f
+  move-fit n w (makes_tx l) few is f = weaker n (made_by_line s w l) (make-fit n w l is f)
+  move-fit n w (requests m ask) few is f = weaker n _ (call-if-fit n w m (requested w ask) f)
+  move-fit n w (delivers m entries) few is f = weaker n _ (sees-fit n (min entries (entries_left w (member_at s w m))) w m f)
+  move-fit n w (claims m tx (claims_vote origins)) few is f = weaker n _ (fvoted-fit n w m origins (made_named w tx) is (λ x e. made-named n w tx x f e) f)
+  move-fit n w (claims m tx (claims_ack spoiled)) few is f = weaker n _ (acked-fit n w m spoiled (made_named w tx) f)
+  move-fit n w (certifies tx members) few is f = weaker n _ (formed-fit n w members (made_named w tx) (λ x e. made-named n w tx x f e) is.0 is.1 f)
+  move-fit n w (submits (cert_submitted tx)) few is f = weaker n _ (ordered-fit n w (cert_named w tx) (λ x e. cert-named n w tx x f e) f)
+  move-fit n w (submits mark_submitted) few is f = weaker n _ (enter-fit n w entry.Commit commit-entry f)
+  move-fit n w (submits_end m) few is f = end-ordered-fit n w m is few f
+  move-fit n w (arms_stop m kept) few is f = weaker n _ (on-seat-fit n w m (armed_seat kept) (λ seat. refl) (slice_get w.seats m) refl f)
+  move-fit n w (starts_again m) few is f = weaker n _ (on-seat-fit n w m started_seat (λ seat. refl) (slice_get w.seats m) refl f)
+
   line-fit : (n : ℕ) (w : World) (e : Event) → n ≤ most_words → IsFitEvent e → IsFit s n w → IsFit s (suc n) (happens s w e)
   unfolding happens_over
-  line-fit n w (event.Tx name sender spoiled epoch gas budget inputs commands) few is f =
-      let l : TxLine = record { name = name; sender = sender; spoiled = spoiled; epoch = epoch; gas = gas; budget = budget; inputs = inputs; commands = commands } in
-      weaker n (made_by_line s w l) (make-fit n w l (record {
-        epoch = is.0.2;
-        gas = is.0.3;
-        budget = is.0.4;
-        inputs = is.0.5;
-        commands = is.0.6;
-        few_inputs = is.1.0;
-        short_inputs = is.1.1;
-        few_commands = is.1.2;
-        short_commands = is.1.3;
-      }) f)
-  line-fit n w (event.Vote m tx) few is f = weaker n _ (voted-fit n w m (made_named w tx) f)
-  line-fit n w (event.Fvote m tx origins) few is f = weaker n _ (fvoted-fit n w m origins (made_named w tx) is.1 (λ x e. made-named n w tx x f e) f)
-  line-fit n w (event.Cert tx members) few is f = weaker n _ (formed-fit n w members (made_named w tx) (λ x e. made-named n w tx x f e) is.0.2 is.1 f)
-  line-fit n w (event.Send m tx) few is f = weaker n _ (sent-fit n w m (cert_named w tx) f)
-  line-fit n w (event.Order tx) few is f = weaker n _ (ordered-fit n w (cert_named w tx) (λ x e. cert-named n w tx x f e) f)
-  line-fit n w (event.OrderEnd m) few is f = end-ordered-fit n w m is.0 few f
-  line-fit n w event.OrderCommit few is f = weaker n _ (enter-fit n w entry.Commit commit-entry f)
-  line-fit n w (event.See m entries) few is f = weaker n _ (sees-fit n (min entries (entries_left w (member_at s w m))) w m f)
-  line-fit n w (event.Run m workers) few is f = weaker n _ (call-fit n w m runs f)
-  line-fit n w (event.Close m) few is f = weaker n _ (call-fit n w m closes f)
-  line-fit n w (event.End m) few is f = weaker n _ (call-fit n w m ends f)
-  line-fit n w (event.Turn m) few is f = weaker n _ (call-fit n w m turns f)
-  line-fit n w (event.Show m) few is f = weaker n w f
-  line-fit n w (event.Stop m kept) few is f = weaker n _ (on-seat-fit n w m (armed_seat kept) (λ seat. refl) (slice_get w.seats m) refl f)
-  line-fit n w (event.Restart m) few is f = weaker n _ (on-seat-fit n w m started_seat (λ seat. refl) (slice_get w.seats m) refl f)
-  line-fit n w (event.RawVote m bytes) few is f = weaker n _ (call-fit n w m (votes bytes) f)
-  line-fit n w (event.RawHold m bytes) few is f = weaker n _ (call-fit n w m (holds bytes) f)
-  line-fit n w (event.Ack m tx spoiled) few is f = weaker n _ (acked-fit n w m spoiled (made_named w tx) f)
-  line-fit n w (event.Final tx members) few is f = weaker n w f
+  line-fit n w e few is f = move-fit n w (move_of e) few (fit-move e is) f
 
   run-fit : (n : ℕ) (events : List Event) (w : World) → n + length events ≤ most_words → AllByRecursion IsFitEvent events → IsFit s n w → IsFit s (n + length events) (run s events w)
   run-fit n [] w few is f = let same : n ≡ n + 0 = omega arith in subst (λ (k : ℕ). IsFit s k w) same f

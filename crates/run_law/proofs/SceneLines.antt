@@ -299,26 +299,24 @@ module _ (trust : Trust) (s : Setting) (rules : s.rules ≡ rules_for (terms_of 
 
   pub lines-same : (e : Event) → is_restart e ≡ false → lines_of s w e ≡ lines_in trust (scene_of s w) e
   unfolding lines_over lines_in
-  lines-same (event.Tx name sender spoiled epoch gas budget inputs commands) other = refl
   lines-same (event.Vote m tx) other = vote-lines trust s rules seal w m tx (made_named w tx)
   lines-same (event.Fvote m tx origins) other = fvote-same trust s rules seal w m tx origins (made_named w tx)
   lines-same (event.Cert tx members) other = cert-same trust s rules seal w tx members (made_named w tx)
   lines-same (event.Send m tx) other = ap (λ (text : SendText). line.Send m tx text ∷ []) (send-said trust s rules seal w m (cert_named w tx))
   lines-same (event.Order tx) other = ap (λ (text : OrderText). line.Order tx text ∷ []) (order-text trust s rules seal w (cert_named w tx))
   lines-same (event.OrderEnd m) other = ap (λ (text : OrderEndText). line.OrderEnd m text ∷ []) (end-order-text trust s rules seal w m)
-  lines-same event.OrderCommit other = refl
   lines-same (event.See m entries) other = see-lines m entries (stands s w m)
   lines-same (event.Run m workers) other = run-said trust s rules seal w m
   lines-same (event.Close m) other = ap (λ (text : CloseText). line.Close m text ∷ []) (close-said trust s rules seal w m)
   lines-same (event.End m) other = ap (λ (text : EndText). line.End m text ∷ []) (end-said trust s rules seal w m)
   lines-same (event.Turn m) other = turn-said trust s rules seal w m
   lines-same (event.Show m) other = show-said trust s rules seal w m
-  lines-same (event.Stop m kept) other = refl
   lines-same (event.Restart m) other = absurd (cc)
   lines-same (event.RawVote m bytes) other = ap (λ (text : VoteText). line.RawVote m text ∷ []) (vote-said trust s rules seal w m bytes)
   lines-same (event.RawHold m bytes) other = ap (λ (text : SendText). line.RawHold m text ∷ []) (hold-said trust s rules seal w m bytes)
   lines-same (event.Ack m tx spoiled) other = ack-lines trust s rules seal w m tx (made_named w tx)
   lines-same (event.Final tx members) other = final-same trust s rules seal w tx members (made_named w tx)
+  lines-same e other = refl
 
 pub lines-shown : (trust : Trust) (s : Setting) (w : World) (sc : Scene) (e : Event) → Shows trust s w sc → is_restart e ≡ false → lines_of s w e ≡ lines_in trust sc e
 lines-shown trust s w sc e shows other =

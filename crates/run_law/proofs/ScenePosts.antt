@@ -15,7 +15,7 @@ use Rattle.world_spec.specs.Terms.{terms_of}
 use Rattle.world_spec.specs.Seats.{Seated}
 use Rattle.world_spec.specs.Posts.{Post, changed_at, post_behind, posts_behind, posts_with, reached_in, reached_post, reached_standing, seat_at, seat_behind, stated_in}
 use Rattle.world_spec.specs.Scene.{Scene}
-use Rattle.world_spec.specs.SceneSteps.{called_scene, voted_scene}
+use Rattle.world_spec.specs.SceneSteps.{asked_scene, called_scene}
 use Rattle.world_spec.specs.SceneWorlds.{post_of, posts_from, scene_of}
 use Rattle.protocol_spec.specs.Member.Versions.{Execution, execution_of}
 use Rattle.protocol_spec.specs.Chain.Words.{first_some, refused_or, unless_refused}
@@ -163,9 +163,6 @@ module _ (s : Setting) where
       ∙ ap (λ (posts : List Post). with_both w posts (called_in s w m call).said) (sym (posts-same w m call))
       ∙ ap (λ (said : List Said). with_both w (posts_behind s.rules (posts_from s 0 w.seats) m call) said) (sym (said-same w m call))
 
-  pub vote-called : (w : World) (m : ℕ) (bytes : List ℕ) → scene_of s (called_in s w m (votes bytes)) ≡ voted_scene s.seal s.rules (scene_of s w) m bytes
-  vote-called w m bytes = sealed-same w m (votes bytes)
-
   -- no seal is kept of what a call states that asks for no vote
   abbrev pub IsPlain : Call → Type 0
   IsPlain call = (m : ℕ) (before : Member) → map (sealed_by s.seal m) (stated s.rules before call) ≡ map (said_by m) (stated s.rules before call)
@@ -202,7 +199,7 @@ module _ (s : Setting) where
   plain-acked m before tx None (Some x) = refl
   plain-acked m before tx (Some refusal) x = refl
 
-  pub plain-holds : (bytes : List ℕ) → IsPlain (holds bytes)
+  plain-holds : (bytes : List ℕ) → IsPlain (holds bytes)
   unfolding stated
   plain-holds bytes m before = refl
 
@@ -210,19 +207,19 @@ module _ (s : Setting) where
   unfolding stated
   plain-sees number bytes m before = plain-seen m (see_answer s.rules before number bytes)
 
-  pub plain-runs : IsPlain runs
+  plain-runs : IsPlain runs
   unfolding stated
   plain-runs m before = plain-ran m (run_answer s.rules before)
 
-  pub plain-closes : IsPlain closes
+  plain-closes : IsPlain closes
   unfolding stated
   plain-closes m before = refl
 
-  pub plain-ends : IsPlain ends
+  plain-ends : IsPlain ends
   unfolding stated end_answer
   plain-ends m before = plain-ended m before.epoch (first_some (end_cases before))
 
-  pub plain-turns : IsPlain turns
+  plain-turns : IsPlain turns
   unfolding stated
   plain-turns m before = refl
 
@@ -230,20 +227,16 @@ module _ (s : Setting) where
   unfolding stated ack_answer
   plain-acks tx m before = plain-acked m before tx (halted no_ack.Halted before) (execution_of before.executed tx)
 
-  -- ---- nothing is ordered
-
-  open-left : (w : World) (m : ℕ) (call : Call) (seat : worlds.Seat) (r : Reached) → (behind s w m call seat r).sequences ≡ w.sequences
-  open-left w m call seat finds_down = refl
-  open-left w m call seat (stops kept x) = refl
-  open-left w m call seat (answers before x) = refl
-
-  open-where : (w : World) (m : ℕ) (call : Call) (seat : Option worlds.Seat) → (called_seat s w m call seat).sequences ≡ w.sequences
-  open-where w m call None = refl
-  open-where w m call (Some seat) = open-left w m call seat (reached_seat s call seat)
-
-  pub called-open : (w : World) (m : ℕ) (call : Call) → (called_in s w m call).sequences ≡ w.sequences
-  unfolding called_over
-  called-open w m call = open-where w m call (slice_get w.seats m)
+  -- what any call makes of the scene
+  pub asked-call : (w : World) (m : ℕ) (call : Call) → scene_of s (called_in s w m call) ≡ asked_scene s.seal s.rules (scene_of s w) m call
+  asked-call w m (votes bytes) = sealed-same w m (votes bytes)
+  asked-call w m (holds bytes) = called-same w m (holds bytes) (plain-holds bytes)
+  asked-call w m (sees number bytes) = called-same w m (sees number bytes) (plain-sees number bytes)
+  asked-call w m runs = called-same w m runs plain-runs
+  asked-call w m closes = called-same w m closes plain-closes
+  asked-call w m ends = called-same w m ends plain-ends
+  asked-call w m turns = called-same w m turns plain-turns
+  asked-call w m (acks tx) = called-same w m (acks tx) (plain-acks tx)
 
   -- ---- one seat changes
 
@@ -265,10 +258,3 @@ module _ (s : Setting) where
         scene-on (slice_get w.seats m)
         ∙ ap (λ (posts : List Post). record (scene_of s w) { posts = posts })
         (sym (posts-on (slice_get w.seats m) same) ∙ ap (λ (p : Option Post). changed_at (posts_from s 0 w.seats) m post p) (sym (posts-get s 0 w.seats m)))
-
-    on-open : (seat : Option worlds.Seat) → (on_seat w m change seat).sequences ≡ w.sequences
-    on-open None = refl
-    on-open (Some seat) = refl
-
-    pub changed-open : (on_seat w m change (slice_get w.seats m)).sequences ≡ w.sequences
-    changed-open = on-open (slice_get w.seats m)

@@ -1,30 +1,29 @@
 -- Observable records follow the world.
 use Rattle.std.proofs.Common.{refl, sym, subst, ap, ◌∙◌, arith, inl, inr}
-use Rattle.std.specs.Prelude.{◌≡◌, ◌⊎◌, ◌≤◌, ◌==◌, ℕ, zero, suc, Bool, true, false, cond, length, List, [], ◌∷◌, ◌++◌, map, slice_get, slice_set, Option, Some, None, option_map}
-use Rattle.chain_messages.specs.declared.messages.Certificate.{Certificate}
+use Rattle.std.specs.Prelude.{◌≡◌, ◌⊎◌, ◌≤◌, ℕ, zero, suc, Bool, true, false, cond, length, List, [], ◌∷◌, ◌++◌, map, slice_get, slice_set, Option, Some, None, option_map}
 use Rattle.chain_messages.specs.declared.messages.Statement.{Statement}
-use Rattle.chain_messages.specs.declared.messages.Statement.TheVariants as statement
 use Rattle.journal_core.specs.declared.records.Record.{Record}
 use Rattle.journal_core.specs.Records as journals
 use Rattle.outside.specs.Lists.{Journals, journal_of, with_record}
 use Rattle.schedule_text.specs.declared.words.Event.{Event}
-use Rattle.schedule_text.specs.declared.words.Event.TheVariants as event
 use Rattle.protocol_spec.proofs.ListLemmas.{front_then, front_whole, set_length}
 use Rattle.protocol_spec.specs.Chain.Certificates.{Rules}
-use Rattle.protocol_spec.specs.Chain.Collecting.{Collected, lacks, short, differ, whole}
+use Rattle.protocol_spec.specs.Chain.Words.{Each}
 use Rattle.protocol_spec.specs.Member.Calls.{Call, acks}
-use Rattle.world_spec.specs.Setting.{Name, Trust, Setting}
+use Rattle.world_spec.specs.Setting.{Trust, Setting}
 use Rattle.world_spec.specs.World as worlds
-use Rattle.world_spec.specs.World.{Made, World, Reached, finds_down, stops, answers, appended, behind, called_if, called_in, called_seat, is_honest, new_seat, new_world, next_call, reached, reached_at, reached_seat, sees_on, stopped_seat, called_over, reached_over, armed_seat, started_seat}
+use Rattle.world_spec.specs.World.{Made, World, Reached, finds_down, stops, answers, appended, behind, by_records, called_if, called_in, called_seat, is_honest, new_seat, new_world, next_call, reached, reached_at, reached_seat, sees_on, stopped_seat, called_over, reached_over}
 use Rattle.world_spec.specs.Names.{cert_named, made_named}
-use Rattle.world_spec.specs.Making.{made_over}
-use Rattle.world_spec.specs.Step.{acked, appended_entry, end_in, false_ack, formed, formed_as, fvoted, happens, has_ended, honest_end, last_said, on_seat, ordered, ordered_end, risen_if, says, sealed_end, sent, voted_on, votes_collected, happens_over}
+use Rattle.world_spec.specs.Moves.{Move, requests, delivers, claims, vote_named, hold_named, direct, claims_ack, held_call, move_of, signed_call}
+use Rattle.world_spec.specs.Step.{acked, false_ack, happens, happens_over, moved, says}
 use Rattle.world_spec.specs.Run.{records_of}
+use Rattle.world_spec.specs.Assumptions.{calls_by}
 use Rattle.world_spec.specs.Posts.{list_of, reached_in, record_left, with_all}
 use Rattle.world_spec.specs.Scene.{Scene, rules_in}
 use Rattle.world_spec.specs.SceneSteps as scenes
-use Rattle.world_spec.specs.SceneSteps.{AddsLine, MayAddLine, Work, idle, asks, hands, ack_work, asked, held_call, left_if, next_on, records_left, sees_left, signed_call, work_of}
+use Rattle.world_spec.specs.SceneSteps.{AddsLine, MayAddLine, Work, idle, asks, hands, ack_work, asked, left_if, next_on, records_left, sees_left, work_by, work_of}
 use Rattle.world_spec.specs.SceneWorlds.{HasRoom, IsFront, Shows, Tells, TellsFront, journal_in, posts_from, scene_of, spelled}
+use Rattle.safety_law.proofs.Steps.{Keeps, step-move}
 use Rattle.run_law.proofs.ScenePosts.{reached-same}
 use Rattle.run_law.proofs.SceneSees.{IsUp, IsDown, count-same, down-next, down-step, next-same, stands, up-next, up-next-on}
 use Rattle.run_law.proofs.SceneSteps.{bare-honest}
@@ -160,50 +159,24 @@ module _ (s : Setting) where
   Does w (asks m call) next = next ≡ called_in s w m call
   Does w (hands m n) next = next ≡ sees_on s n w m
 
-  if-keeps : (b : Bool) (w v u : World) → KeepsRecords w v → KeepsRecords w u → KeepsRecords w (cond b v u)
-  if-keeps true w v u one other = one
-  if-keeps false w v u one other = other
+  -- without a call no record is appended
+  records-keep : (w : World) → Keeps s (λ _ _. ⊥) (KeepsRecords w)
+  records-keep w = record {
+    calls = λ v m call none _. absurd none;
+    lies = λ v m st _ _ keeps. keeps;
+    seats = λ v m seat new at _ same keeps k. same-records v.seats m seat new at same k ∙ keeps k;
+    enters = λ v e _ keeps. keeps;
+    rises = λ v keeps. keeps;
+    makes = λ v l t _ keeps. keeps;
+    forms = λ v t ms _ _ keeps. keeps;
+  }
 
-  fvote-keeps : (w : World) (m : ℕ) (words : List (Option Name)) (t : Option Made) → KeepsRecords w (fvoted s w m words t)
-  fvote-keeps w m words None = λ k. refl
-  fvote-keeps w m words (Some t) = if-keeps (is_honest w m) w w _ (λ k. refl) (λ k. refl)
+  none-keeps : (w : World) (mv : Move) → Each (λ (call : Call). ⊥) (calls_by s w mv) → KeepsRecords w (moved (by_records s) s w mv)
+  none-keeps w mv none = step-move s (λ _ _. ⊥) (KeepsRecords w) (records-keep w) w mv none (λ k. refl)
 
-  formed-keeps : (w : World) (t : Made) (ms : List ℕ) (c : Collected) → KeepsRecords w (formed_as w t ms c)
-  formed-keeps w t ms (lacks m) k = refl
-  formed-keeps w t ms (short weight total) k = refl
-  formed-keeps w t ms (differ a b) k = refl
-  formed-keeps w t ms whole k = refl
-
-  cert-keeps : (w : World) (ms : List ℕ) (t : Option Made) → KeepsRecords w (formed s w ms t)
-  cert-keeps w ms None = λ k. refl
-  cert-keeps w ms (Some t) = formed-keeps w t ms (votes_collected s w t ms)
-
-  order-keeps : (w : World) (c : Option Certificate) → KeepsRecords w (ordered w c)
-  order-keeps w None = λ k. refl
-  order-keeps w (Some c) = if-keeps (c.tx.epoch == w.epoch) w _ w (λ k. refl) (λ k. refl)
-
-  risen-keeps : (b : Bool) (w v : World) → KeepsRecords w v → KeepsRecords w (risen_if b v)
-  risen-keeps true w v keeps = keeps
-  risen-keeps false w v keeps = keeps
-
-  end-keeps : (w v : World) (m epoch : ℕ) → KeepsRecords w v → KeepsRecords w (ordered_end s v m epoch)
-  end-keeps w v m epoch keeps = risen-keeps (has_ended s (appended_entry v (sealed_end s m epoch))) w (appended_entry v (sealed_end s m epoch)) keeps
-
-  honest-keeps : (w : World) (m : ℕ) (epoch : Option ℕ) → KeepsRecords w (honest_end s w m epoch)
-  honest-keeps w m None = λ k. refl
-  honest-keeps w m (Some epoch) = if-keeps (epoch == w.epoch) w _ w (end-keeps w w m epoch (λ k. refl)) (λ k. refl)
-
-  on-keeps : (w : World) (m : ℕ) (change : worlds.Seat → worlds.Seat) → ((seat : worlds.Seat) → (change seat).records ≡ seat.records) → (seat : Option worlds.Seat) → slice_get w.seats m ≡ seat → KeepsRecords w (on_seat w m change seat)
-  on-keeps w m change same None at k = refl
-  on-keeps w m change same (Some seat) at k = same-records w.seats m seat (change seat) at (same seat) k
-
-  vote-does : (w : World) (m : ℕ) (t : Option Made) → Does w (asked m (option_map signed_call t)) (voted_on s w m t)
-  vote-does w m None = λ k. refl
-  vote-does w m (Some t) = refl
-
-  send-does : (w : World) (m : ℕ) (c : Option Certificate) → Does w (asked m (option_map held_call c)) (sent s w m c)
-  send-does w m None = λ k. refl
-  send-does w m (Some c) = refl
+  asked-does : (w : World) (m : ℕ) (call : Option Call) → Does w (asked m call) (called_if s w m call)
+  asked-does w m None = λ k. refl
+  asked-does w m (Some call) = refl
 
   ack-if : (w : World) (m : ℕ) (call : Call) (st : Statement) (b : Bool) → Does w (cond b (asks m call) idle) (cond b (called_in s w m call) (says s.seal w m st))
   ack-if w m call st true = refl
@@ -215,28 +188,17 @@ module _ (s : Setting) where
       subst (λ (b : Bool). Does w (cond b (asks m (acks t.digest)) idle) (acked s w m spoiled (Some t))) (bare-honest s 0 w.seats m)
       (ack-if w m (acks t.digest) (false_ack s w t spoiled) (is_honest w m))
 
+  move-does : (w : World) (mv : Move) → Does w (work_by (scene_of s w) mv) (moved (by_records s) s w mv)
+  move-does w (requests m (vote_named tx)) = asked-does w m (option_map signed_call (made_named w tx))
+  move-does w (requests m (hold_named tx)) = asked-does w m (option_map held_call (cert_named w tx))
+  move-does w (requests m (direct call)) = refl
+  move-does w (delivers m entries) = count-same s w m entries
+  move-does w (claims m tx (claims_ack spoiled)) = ack-does w m spoiled (made_named w tx)
+  move-does w mv = none-keeps w mv tt
+
   line-does : (w : World) (e : Event) → Does w (work_of (scene_of s w) e) (happens s w e)
-  unfolding work_of happens_over made_over
-  line-does w (event.Tx name sender spoiled epoch gas budget inputs commands) = λ k. refl
-  line-does w (event.Vote m tx) = vote-does w m (made_named w tx)
-  line-does w (event.Fvote m tx origins) = fvote-keeps w m origins (made_named w tx)
-  line-does w (event.Cert tx members) = cert-keeps w members (made_named w tx)
-  line-does w (event.Send m tx) = send-does w m (cert_named w tx)
-  line-does w (event.Order tx) = order-keeps w (cert_named w tx)
-  line-does w (event.OrderEnd m) = if-keeps (is_honest w m) w _ _ (honest-keeps w m (last_said end_in m w.said)) (end-keeps w (says s.seal w m (statement.End w.epoch)) m w.epoch (λ k. refl))
-  line-does w event.OrderCommit = λ k. refl
-  line-does w (event.See m entries) = count-same s w m entries
-  line-does w (event.Run m workers) = refl
-  line-does w (event.Close m) = refl
-  line-does w (event.End m) = refl
-  line-does w (event.Turn m) = refl
-  line-does w (event.Show m) = λ k. refl
-  line-does w (event.Stop m kept) = on-keeps w m (armed_seat kept) (λ seat. refl) (slice_get w.seats m) refl
-  line-does w (event.Restart m) = on-keeps w m started_seat (λ seat. refl) (slice_get w.seats m) refl
-  line-does w (event.RawVote m bytes) = refl
-  line-does w (event.RawHold m bytes) = refl
-  line-does w (event.Ack m tx spoiled) = ack-does w m spoiled (made_named w tx)
-  line-does w (event.Final tx members) = λ k. refl
+  unfolding work_of happens_over
+  line-does w e = move-does w (move_of e)
 
 -- ---- observable lists after a line
 

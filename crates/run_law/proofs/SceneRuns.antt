@@ -14,9 +14,10 @@ use Rattle.protocol_spec.specs.Chain.Words.{Each, last_where}
 use Rattle.world_spec.specs.Setting.{Name, Setting}
 use Rattle.world_spec.specs.World.{Formed, Made, World, member_at, new_world}
 use Rattle.world_spec.specs.Names.{cert_in, made_named}
+use Rattle.world_spec.specs.Moves.{Move, requests, delivers, claims, vote_named, hold_named, direct, claims_ack, move_of}
 use Rattle.world_spec.specs.Step.{entries_left, happens}
 use Rattle.world_spec.specs.Run.{run, world_after}
-use Rattle.world_spec.specs.Assumptions.{ack_call, all_of, calls_of, see_calls, send_call, vote_call}
+use Rattle.world_spec.specs.Assumptions.{ack_call, all_of, calls_by, calls_of, see_calls, send_call, vote_call}
 use Rattle.run_law.specs.Sayable.{IsStatement}
 use Rattle.run_law.proofs.SaidWhole.{text_said}
 use Rattle.safety_law.proofs.Steps.{last-has}
@@ -32,6 +33,16 @@ use Rattle.run_law.proofs.SceneSees.{see-each}
 use Rattle.run_law.proofs.SceneStarts.{entry-spelled, hold-bytes, hold-spelled, run-starts, vote-bytes, vote-spelled}
 
 -- ---- the calls of a line
+
+-- what is read from bytes of the line's own fits
+abbrev IsReadMove : Move → Type 0
+IsReadMove (requests m (direct call)) = ReadsFit call
+IsReadMove mv = Unit {0}
+
+read-move : (e : Event) → IsFitEvent e → IsReadMove (move_of e)
+read-move (event.RawVote m bytes) is = vote-bytes bytes (bytes_by_index bytes is.0.1.1)
+read-move (event.RawHold m bytes) is = hold-bytes bytes (bytes_by_index bytes is.0.1.1)
+read-move e is = tt
 
 module _ (s : Setting) (n : ℕ) (w : World) (fit : IsFit s n w) where
   vote-read : (name : Name) (t : Option Made) → made_named w name ≡ t → Each ReadsFit (vote_call t)
@@ -50,27 +61,16 @@ module _ (s : Setting) (n : ℕ) (w : World) (fit : IsFit s n w) where
   ack-read None = tt
   ack-read (Some t) = (tt, tt)
 
+  move-read : (mv : Move) → IsReadMove mv → Each ReadsFit (calls_by s w mv)
+  move-read (requests m (vote_named tx)) fits = vote-read tx (made_named w tx) refl
+  move-read (requests m (hold_named tx)) fits = send-read tx (last_where (λ (x : Formed). bytes_eq x.name tx) w.certs) refl
+  move-read (requests m (direct call)) fits = (fits, tt)
+  move-read (delivers m entries) fits = see-read m (min entries (entries_left w (member_at s w m)))
+  move-read (claims m tx (claims_ack spoiled)) fits = ack-read (made_named w tx)
+  move-read mv fits = tt
+
   line-read : (e : Event) → IsFitEvent e → Each ReadsFit (calls_of s w e)
-  line-read (event.Tx name sender spoiled epoch gas budget inputs commands) is = tt
-  line-read (event.Vote m tx) is = vote-read tx (made_named w tx) refl
-  line-read (event.Fvote m tx origins) is = tt
-  line-read (event.Cert tx members) is = tt
-  line-read (event.Send m tx) is = send-read tx (last_where (λ (x : Formed). bytes_eq x.name tx) w.certs) refl
-  line-read (event.Order tx) is = tt
-  line-read (event.OrderEnd m) is = tt
-  line-read event.OrderCommit is = tt
-  line-read (event.See m entries) is = see-read m (min entries (entries_left w (member_at s w m)))
-  line-read (event.Run m workers) is = (tt, tt)
-  line-read (event.Close m) is = (tt, tt)
-  line-read (event.End m) is = (tt, tt)
-  line-read (event.Turn m) is = (tt, tt)
-  line-read (event.Show m) is = tt
-  line-read (event.Stop m kept) is = tt
-  line-read (event.Restart m) is = tt
-  line-read (event.RawVote m bytes) is = (vote-bytes bytes (bytes_by_index bytes is.0.1.1), tt)
-  line-read (event.RawHold m bytes) is = (hold-bytes bytes (bytes_by_index bytes is.0.1.1), tt)
-  line-read (event.Ack m tx spoiled) is = ack-read (made_named w tx)
-  line-read (event.Final tx members) is = tt
+  line-read e is = move-read (move_of e) (read-move e is)
 
 -- ---- the calls of a run
 

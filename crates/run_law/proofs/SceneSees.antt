@@ -19,7 +19,8 @@ use Rattle.world_spec.specs.Scene.{Scene, bare_world}
 use Rattle.world_spec.specs.SceneSteps as scenes
 use Rattle.world_spec.specs.SceneSteps.{next_on, seat_state, sees_to, standing_at, state_at}
 use Rattle.world_spec.specs.SceneWorlds.{post_of, scene_of}
-use Rattle.run_law.proofs.ScenePosts.{called-open, called-same, place, posts-get, plain-sees}
+use Rattle.safety_law.proofs.Growth.{called_if-same}
+use Rattle.run_law.proofs.ScenePosts.{called-same, place, posts-get, plain-sees}
 
 -- a member is there and up
 pub record IsUp (w : World) (m : ℕ) : Type 0 where
@@ -159,16 +160,6 @@ module _ (s : Setting) where
       up-called w m call is ∙ ap (λ (r : Reached). behind s w m call is.seat r) (sym (up-reached w m call is) ∙ e) in
       record { seat = seat; at = ap (λ (v : World). slice_get v.seats m) same ∙ set_get w.seats m is.seat seat is.at; up = is.up }
 
-  -- ---- nothing is ordered
-
-  if-open : (w : World) (m : ℕ) (call : Option Call) → (called_if s w m call).sequences ≡ w.sequences
-  if-open w m None = refl
-  if-open w m (Some call) = called-open s w m call
-
-  pub sees-open : (n : ℕ) (w : World) (m : ℕ) → (sees_on s n w m).sequences ≡ w.sequences
-  sees-open zero w m = refl
-  sees-open (suc n) w m = sees-open n (called_if s w m (next_call s w m)) m ∙ if-open w m (next_call s w m)
-
   -- ---- the calls that hand in entries of which Q holds
 
   module _ (Q : Entry → Type 0) (P : Call → Type 0) (tells : (number : ℕ) (e : Entry) → Q e → P (sees number (messages.entry.spell e))) where
@@ -195,4 +186,4 @@ module _ (s : Setting) where
         let v = called_if s w m (next_call s w m) in
         each_join P (call_list (next_call s w m)) (see_calls s n v m)
         (next-of w (slice_get w.seats m) each)
-        (see-each n v m (subst (λ (qs : List (List Entry)). Each (Each Q) qs) (sym (if-open w m (next_call s w m))) each))
+        (see-each n v m (subst (λ (qs : List (List Entry)). Each (Each Q) qs) (sym (called_if-same s w m (next_call s w m))) each))

@@ -46,23 +46,24 @@ use Rattle.protocol_spec.specs.Member.Member.{Member, after, books, fresh, state
 use Rattle.protocol_spec.specs.Member.Calls.{Call, votes, holds, sees, runs, closes, ends, turns, acks, Voted, close_answer, close_record, due, halted, hold_answer, hold_record, is_hold_kept, kept_vote, ran_as, ran_item, ran_items, ran_record, record_limit, run_answer, run_record, see_cases, see_record, turn_answer, turn_record, vote_answer, vote_record}
 use Rattle.protocol_spec.specs.Member.Replay.{is_allowed}
 use Rattle.schedule_text.specs.declared.words.Event.{Event}
-use Rattle.schedule_text.specs.declared.words.Event.TheVariants as event
 use Rattle.world_spec.specs.Setting.{Trust, Setting}
 use Rattle.world_spec.specs.World as worlds
 use Rattle.world_spec.specs.World.{Made, World, is_honest, member_at, new_world, stated, voted_statement}
 use Rattle.world_spec.specs.Names.{cert_named, made_named}
+use Rattle.world_spec.specs.Moves.{Move, requests, delivers, claims, vote_named, hold_named, direct, claims_ack, held_call, move_of, signed_call}
 use Rattle.world_spec.specs.Step.{entries_left, happens}
 use Rattle.world_spec.specs.Run.{run, world_after}
-use Rattle.world_spec.specs.Assumptions.{ack_call, all_of, calls_of, see_calls, send_call, vote_call}
+use Rattle.world_spec.specs.Assumptions.{ack_call, all_of, calls_by, calls_of, see_calls, send_call, vote_call}
 use Rattle.world_spec.specs.Starts.{read_record, started, started_from, taken_at}
 use Rattle.protocol_spec.specs.Member.Due.{IsDueBehind}
 use Rattle.safety_law.proofs.Apart.{state-push}
 use Rattle.safety_law.proofs.InWorld.{in_world_given, kept-line, new-seats}
 use Rattle.safety_law.proofs.Allowed.{due-allowed}
+use Rattle.safety_law.proofs.Steps.{HandsNoEntry, no-entry}
 use Rattle.run_law.proofs.Members.{AreOrigins, IsDigest, IsFitMember, IsFitStatement, fit-none, fit-step, stated-fit, tagged-digest}
 use Rattle.run_law.proofs.Fits.{origins-fit}
 use Rattle.world_spec.specs.Scene.{Scene, bare_world}
-use Rattle.world_spec.specs.SceneSteps.{idle, asks, ack_work, asked, held_call, signed_call, work_of}
+use Rattle.world_spec.specs.SceneSteps.{idle, asks, ack_work, asked, work_by, work_of}
 use Rattle.world_spec.specs.SceneWorlds.{AreKeepable, IsKeepable, ReadsFit, Restarts, Shows, WorkReadsFit, scene_of, spelled}
 use Rattle.run_law.proofs.SceneCounted.{few-rounds, holds-few}
 use Rattle.run_law.proofs.SceneRecords.{spelled-push}
@@ -352,28 +353,18 @@ module _ (s : Setting) where
   ack-given None = tt
   ack-given (Some t) = (tt, tt)
 
+  move-given : (w : World) (mv : Move) → HandsNoEntry mv → WorkReadsFit (work_by (scene_of s w) mv) → AreKeepable w.sequences → Each Given (calls_by s w mv)
+  move-given w (requests m (vote_named tx)) own fits keepable = vote-given m (made_named w tx) fits
+  move-given w (requests m (hold_named tx)) own fits keepable = send-given m (cert_named w tx) fits
+  move-given w (requests m (direct (sees number bytes))) own fits keepable = absurd own
+  move-given w (requests m (direct call)) own fits keepable = (fits, tt)
+  move-given w (delivers m entries) own fits keepable = see-given w m (min entries (entries_left w (member_at s w m))) keepable
+  move-given w (claims m tx (claims_ack spoiled)) own fits keepable = ack-given (made_named w tx)
+  move-given w mv own fits keepable = tt
+
   line-given : (w : World) (e : Event) → WorkReadsFit (work_of (scene_of s w) e) → AreKeepable w.sequences → Each Given (calls_of s w e)
   unfolding work_of
-  line-given w (event.Tx name sender spoiled epoch gas budget inputs commands) fits keepable = tt
-  line-given w (event.Vote m tx) fits keepable = vote-given m (made_named w tx) fits
-  line-given w (event.Fvote m tx origins) fits keepable = tt
-  line-given w (event.Cert tx members) fits keepable = tt
-  line-given w (event.Send m tx) fits keepable = send-given m (cert_named w tx) fits
-  line-given w (event.Order tx) fits keepable = tt
-  line-given w (event.OrderEnd m) fits keepable = tt
-  line-given w event.OrderCommit fits keepable = tt
-  line-given w (event.See m entries) fits keepable = see-given w m (min entries (entries_left w (member_at s w m))) keepable
-  line-given w (event.Run m workers) fits keepable = (tt, tt)
-  line-given w (event.Close m) fits keepable = (tt, tt)
-  line-given w (event.End m) fits keepable = (tt, tt)
-  line-given w (event.Turn m) fits keepable = (tt, tt)
-  line-given w (event.Show m) fits keepable = tt
-  line-given w (event.Stop m kept) fits keepable = tt
-  line-given w (event.Restart m) fits keepable = tt
-  line-given w (event.RawVote m bytes) fits keepable = (fits, tt)
-  line-given w (event.RawHold m bytes) fits keepable = (fits, tt)
-  line-given w (event.Ack m tx spoiled) fits keepable = ack-given (made_named w tx)
-  line-given w (event.Final tx members) fits keepable = tt
+  line-given w e fits keepable = move-given w (move_of e) (no-entry e) fits keepable
 
   pub first-starts : Restarts s (new_world s)
   unfolding new_world
@@ -404,28 +395,16 @@ module _ (s : Setting) where
   ack-work w m None = tt
   ack-work w m (Some t) = ack-if m t.digest (is_honest (bare_world (scene_of s w)) m)
 
+  move-reads : (w : World) (mv : Move) → Each ReadsFit (calls_by s w mv) → WorkReadsFit (work_by (scene_of s w) mv)
+  move-reads w (requests m (vote_named tx)) fits = vote-work m (made_named w tx) fits
+  move-reads w (requests m (hold_named tx)) fits = send-work m (cert_named w tx) fits
+  move-reads w (requests m (direct call)) fits = fits.0
+  move-reads w (claims m tx (claims_ack spoiled)) fits = ack-work w m (made_named w tx)
+  move-reads w mv fits = tt
+
   work-reads : (w : World) (e : Event) → Each ReadsFit (calls_of s w e) → WorkReadsFit (work_of (scene_of s w) e)
   unfolding work_of
-  work-reads w (event.Tx name sender spoiled epoch gas budget inputs commands) fits = tt
-  work-reads w (event.Vote m tx) fits = vote-work m (made_named w tx) fits
-  work-reads w (event.Fvote m tx origins) fits = tt
-  work-reads w (event.Cert tx members) fits = tt
-  work-reads w (event.Send m tx) fits = send-work m (cert_named w tx) fits
-  work-reads w (event.Order tx) fits = tt
-  work-reads w (event.OrderEnd m) fits = tt
-  work-reads w event.OrderCommit fits = tt
-  work-reads w (event.See m entries) fits = tt
-  work-reads w (event.Run m workers) fits = tt
-  work-reads w (event.Close m) fits = tt
-  work-reads w (event.End m) fits = tt
-  work-reads w (event.Turn m) fits = tt
-  work-reads w (event.Show m) fits = tt
-  work-reads w (event.Stop m kept) fits = tt
-  work-reads w (event.Restart m) fits = tt
-  work-reads w (event.RawVote m bytes) fits = fits.0
-  work-reads w (event.RawHold m bytes) fits = fits.0
-  work-reads w (event.Ack m tx spoiled) fits = ack-work w m (made_named w tx)
-  work-reads w (event.Final tx members) fits = tt
+  work-reads w e fits = move-reads w (move_of e) fits
 
   run-given : (events : List Event) (w : World) → Each ReadsFit (all_of calls_of s events w) → AreKeepable (run s events w).sequences → Each Given (all_of calls_of s events w)
   run-given [] w fits keepable = tt

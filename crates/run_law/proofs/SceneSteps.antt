@@ -1,6 +1,6 @@
 -- A step of the scene is the definition's step.
 use Rattle.std.proofs.Common.{refl, sym, subst, ap, ◌∙◌}
-use Rattle.std.specs.Prelude.{◌≡◌, ◌<◌, ◌==◌, ℕ, ◌+◌, zero, suc, min, Bool, true, false, cond, ◌&&◌, List, [], ◌∷◌, ◌++◌, map, slice_get, length, Option, Some, None, option_map, option_and_then, Result, Ok}
+use Rattle.std.specs.Prelude.{◌≡◌, ◌<◌, ◌==◌, ℕ, ◌+◌, zero, suc, min, Bool, true, false, cond, ◌&&◌, List, [], ◌∷◌, ◌++◌, map, slice_get, length, Option, Some, None, option_and_then, Result, Ok}
 use Rattle.std.specs.List.{enumerate_from}
 use Rattle.digest_core.specs.declared.Digest.{Digest}
 use Rattle.quorum_core.specs.declared.signer.Signer.{Signer}
@@ -18,13 +18,14 @@ use Rattle.protocol_spec.specs.Chain.Collecting.{Collected, lacks, short, differ
 use Rattle.protocol_spec.specs.Chain.Words.{first_some, first_of}
 use Rattle.protocol_spec.specs.Chain.Certificates.{Rules}
 use Rattle.protocol_spec.specs.Member.Member.{Member, state}
-use Rattle.protocol_spec.specs.Member.Calls.{Call, runs, holds, closes, ends, turns, acks}
+use Rattle.protocol_spec.specs.Member.Calls.{Call, acks}
 use Rattle.world_spec.specs.Setting.{Name, Trust, Setting, setting_of}
 use Rattle.world_spec.specs.World as worlds
-use Rattle.world_spec.specs.World.{Made, Said, World, called_in, honest_seat, is_honest, member_at, member_in, new_seat, new_world, said_by, says_first, sees_on, armed_seat, started_seat}
+use Rattle.world_spec.specs.World.{Made, Said, World, by_records, called_if, called_in, honest_seat, is_honest, member_at, member_in, new_seat, new_world, said_by, says_first, sees_on, armed_seat, started_seat}
 use Rattle.world_spec.specs.Names.{made_named, cert_named}
 use Rattle.world_spec.specs.Making.{TxLine, digest_or_zero, held_digest, made_by_line, spoiled_if, made_over}
-use Rattle.world_spec.specs.Step.{acked, appended_entry, end_in, end_ordered, entries_left, executed_digest, false_ack, has_ended, honest_end, last_said, ordered, ordered_end, risen_if, sealed_end, formed, formed_as, fvote_origins, fvoted, happens, honest_vote, no_origins, origin_word, origins_or, says, sent, voted_on, votes_collected, happens_over}
+use Rattle.world_spec.specs.Moves.{Move, looks_on, makes_tx, requests, delivers, claims, certifies, submits, submits_end, arms_stop, starts_again, Request, vote_named, hold_named, direct, claims_vote, claims_ack, cert_submitted, mark_submitted, is_start_move, move_of, requested}
+use Rattle.world_spec.specs.Step.{acked, appended_entry, end_in, end_ordered, entries_left, executed_digest, false_ack, has_ended, honest_end, last_said, ordered, ordered_end, risen_if, sealed_end, formed, formed_as, fvote_origins, fvoted, happens, honest_vote, moved, no_origins, origin_word, origins_or, says, votes_collected, happens_over}
 use Rattle.world_spec.specs.Run.{records_of}
 use Rattle.world_spec.specs.Known.{names_of, with_line}
 use Rattle.world_spec.specs.MadeLines.{line_made}
@@ -35,11 +36,10 @@ use Rattle.world_spec.specs.Starts.{started}
 use Rattle.world_spec.specs.Seats.{Seated}
 use Rattle.world_spec.specs.Posts.{Post, arming, new_posts, seat_at, started_at, starting}
 use Rattle.world_spec.specs.Scene.{Scene, bare_seat, bare_setting, bare_world, new_scene, rules_in}
-use Rattle.world_spec.specs.SceneSteps.{Work, asks, hands, acked_in, asked, called_scene, false_ack_in, held_by, held_call, held_in, says_in, sees_to, signed_call, state_at, steps_to, with_order, with_tx, work_of, worked, voted_in, voted_scene}
+use Rattle.world_spec.specs.SceneSteps.{Work, hands, acked_in, asked, called_scene, false_ack_in, held_by, held_in, says_in, sees_to, state_at, steps_by, steps_to, with_order, with_tx, worked}
 use Rattle.world_spec.specs.SceneWorlds.{Restarts, Shows, is_restart, journal_in, post_of, posts_from, scene_of, spelled}
-use Rattle.run_law.proofs.ScenePosts.{place-first, called-same, called-open, changed-same, vote-called, IsPlain, plain-holds, plain-runs, plain-closes, plain-ends, plain-turns, plain-acks}
+use Rattle.run_law.proofs.ScenePosts.{place-first, asked-call, called-same, changed-same, plain-acks}
 use Rattle.run_law.proofs.SceneSees.{count-same, sees-same}
-use Rattle.chain_types.specs.Transactions as transactions
 
 -- ---- the first scene
 
@@ -130,14 +130,6 @@ module _ (s : Setting) where
       ∙ ap (λ (origins : List (Option Digest)). record (scene_of s w) { said = (cond (is_honest bare m) bare (says s.seal bare m (voted_for t origins))).said }) (origins-same w t words)
       ∙ ap (λ (seals : Signer → List ℕ → Digest). record (scene_of s w) { said = (cond (is_honest bare m) bare (says seals bare m (voted_for t (fvote_origins bare t words)))).said }) seal
 
-  if-open : (w : World) (m : ℕ) (st : Statement) (b : Bool) → (cond b w (says s.seal w m st)).sequences ≡ w.sequences
-  if-open w m st true = refl
-  if-open w m st false = refl
-
-  pub fvote-open : (w : World) (m : ℕ) (words : List (Option Name)) (t : Option Made) → (fvoted s w m words t).sequences ≡ w.sequences
-  fvote-open w m words None = refl
-  fvote-open w m words (Some t) = if-open w m (voted_for t (fvote_origins w t words)) (is_honest w m)
-
   -- ---- certificates
 
   formed-same : (w : World) (t : Made) (ms : List ℕ) (c : Collected) → scene_of s (formed_as w t ms c) ≡ record (scene_of s w) { certs = (formed_as (bare_world (scene_of s w)) t ms c).certs }
@@ -158,33 +150,16 @@ module _ (s : Setting) where
         formed-same w t ms (votes_collected s w t ms)
         ∙ ap (λ (c : Collected). record (scene_of s w) { certs = (formed_as (bare_world (scene_of s w)) t ms c).certs }) (collected-same w t ms)
 
-  formed-open : (w : World) (t : Made) (ms : List ℕ) (c : Collected) → (formed_as w t ms c).sequences ≡ w.sequences
-  formed-open w t ms (lacks m) = refl
-  formed-open w t ms (short weight total) = refl
-  formed-open w t ms (differ a b) = refl
-  formed-open w t ms whole = refl
+  -- ---- calls
 
-  pub cert-open : (w : World) (ms : List ℕ) (t : Option Made) → (formed s w ms t).sequences ≡ w.sequences
-  cert-open w ms None = refl
-  cert-open w ms (Some t) = formed-open w t ms (votes_collected s w t ms)
+  asked-same : (w : World) (m : ℕ) (call : Option Call) → scene_of s (called_if s w m call) ≡ worked s.seal s.rules (scene_of s w) (asked m call)
+  asked-same w m None = refl
+  asked-same w m (Some call) = asked-call s w m call
 
-  -- ---- calls of names
-
-  voted-same : (w : World) (m : ℕ) (t : Option Made) → scene_of s (voted_on s w m t) ≡ voted_in s.seal s.rules (scene_of s w) m t
-  voted-same w m None = refl
-  voted-same w m (Some t) = vote-called s w m (transactions.signed.spell t.signed)
-
-  sent-same : (w : World) (m : ℕ) (c : Option Certificate) → scene_of s (sent s w m c) ≡ worked s.rules (scene_of s w) (asked m (option_map held_call c))
-  sent-same w m None = refl
-  sent-same w m (Some c) = called-same s w m (held_call c) (plain-holds s (messages.certificate.spell c))
-
-  pub voted-open : (w : World) (m : ℕ) (t : Option Made) → (voted_on s w m t).sequences ≡ w.sequences
-  voted-open w m None = refl
-  voted-open w m (Some t) = called-open s w m (signed_call t)
-
-  pub sent-open : (w : World) (m : ℕ) (c : Option Certificate) → (sent s w m c).sequences ≡ w.sequences
-  sent-open w m None = refl
-  sent-open w m (Some c) = called-open s w m (held_call c)
+  request-same : (w : World) (ask : Request) → requested w ask ≡ requested (bare_world (scene_of s w)) ask
+  request-same w (vote_named tx) = refl
+  request-same w (hold_named tx) = refl
+  request-same w (direct call) = refl
 
   see-same : (w : World) (m entries : ℕ)
       → scene_of s (sees_on s (min entries (entries_left w (member_at s w m))) w m) ≡ sees_to s.rules (min entries (entries_left (bare_world (scene_of s w)) (state_at (scene_of s w) m))) (scene_of s w) m
@@ -278,45 +253,35 @@ module _ (s : Setting) where
 
   module _ (trust : Trust) (rules : s.rules ≡ rules_for (terms_of s.rules) trust.accepts) (seal : s.seal ≡ trust.seal) (w : World) where
     abbrev WorkedAs : Work → World → Type 0
-    WorkedAs work next = scene_of s next ≡ worked s.rules (scene_of s w) work
+    WorkedAs work next = scene_of s next ≡ worked s.seal s.rules (scene_of s w) work
 
-    by-rules : (work : Work) (next : World) → WorkedAs work next → scene_of s next ≡ worked (rules_in trust.accepts (scene_of s w)) (scene_of s w) work
-    by-rules work next e = e ∙ ap (λ (r : Rules). worked r (scene_of s w) work) rules
+    by-trust : (work : Work) (next : World) → WorkedAs work next → scene_of s next ≡ worked trust.seal (rules_in trust.accepts (scene_of s w)) (scene_of s w) work
+    by-trust work next e =
+        e
+        ∙ ap (λ (r : Rules). worked s.seal r (scene_of s w) work) rules
+        ∙ ap (λ (f : Signer → List ℕ → Digest). worked f (rules_in trust.accepts (scene_of s w)) (scene_of s w) work) seal
 
-    by-call : (m : ℕ) (call : Call) → IsPlain s call → scene_of s (called_in s w m call) ≡ called_scene (rules_in trust.accepts (scene_of s w)) (scene_of s w) m call
-    by-call m call plain = by-rules (asks m call) (called_in s w m call) (called-same s w m call plain)
+    scene-move : (mv : Move) → is_start_move mv ≡ false → scene_of s (moved (by_records s) s w mv) ≡ steps_by trust (scene_of s w) mv
+    scene-move looks_on other = refl
+    scene-move (makes_tx l) other = tx-same trust w l seal
+    scene-move (requests m ask) other =
+        by-trust (asked m (requested w ask)) (called_if s w m (requested w ask)) (asked-same w m (requested w ask))
+        ∙ ap (λ (call : Option Call). worked trust.seal (rules_in trust.accepts (scene_of s w)) (scene_of s w) (asked m call)) (request-same w ask)
+    scene-move (delivers m entries) other =
+        by-trust (hands m (min entries (entries_left (bare_world (scene_of s w)) (state_at (scene_of s w) m)))) (sees_on s (min entries (entries_left w (member_at s w m))) w m) (see-same w m entries)
+    scene-move (claims m tx (claims_vote origins)) other = fvote-same trust seal w m origins (made_named w tx)
+    scene-move (claims m tx (claims_ack spoiled)) other =
+        ack-same w m spoiled (made_named w tx) ∙ ap (λ (r : Rules). acked_in r (scene_of s w) m spoiled (made_named w tx)) rules
+    scene-move (certifies tx members) other = cert-same trust w members (made_named w tx)
+    scene-move (submits (cert_submitted tx)) other = order-same w (cert_named w tx)
+    scene-move (submits mark_submitted) other = refl
+    scene-move (submits_end m) other = end-same trust w m rules seal
+    scene-move (arms_stop m kept) other = changed-same s w m (armed_seat kept) (arming kept) (λ seat at. refl)
+    scene-move (starts_again m) other = absurd (cc)
 
     scene-step : (e : Event) → is_restart e ≡ false → scene_of s (happens s w e) ≡ steps_to trust (scene_of s w) e
-    unfolding happens_over steps_to work_of
-    scene-step (event.Tx name sender spoiled epoch gas budget inputs commands) other =
-        tx-same trust w (record { name = name; sender = sender; spoiled = spoiled; epoch = epoch; gas = gas; budget = budget; inputs = inputs; commands = commands }) seal
-    scene-step (event.Vote m tx) other =
-        voted-same w m (made_named w tx)
-        ∙ ap (λ (r : Rules). voted_in s.seal r (scene_of s w) m (made_named w tx)) rules
-        ∙ ap (λ (seals : Signer → List ℕ → Digest). voted_in seals (rules_in trust.accepts (scene_of s w)) (scene_of s w) m (made_named w tx)) seal
-    scene-step (event.Fvote m tx origins) other = fvote-same trust seal w m origins (made_named w tx)
-    scene-step (event.Cert tx members) other = cert-same trust w members (made_named w tx)
-    scene-step (event.Send m tx) other = by-rules (asked m (option_map held_call (cert_named w tx))) (sent s w m (cert_named w tx)) (sent-same w m (cert_named w tx))
-    scene-step (event.Order tx) other = order-same w (cert_named w tx)
-    scene-step (event.OrderEnd m) other = end-same trust w m rules seal
-    scene-step event.OrderCommit other = refl
-    scene-step (event.See m entries) other =
-        by-rules (hands m (min entries (entries_left (bare_world (scene_of s w)) (state_at (scene_of s w) m)))) (sees_on s (min entries (entries_left w (member_at s w m))) w m) (see-same w m entries)
-    scene-step (event.Run m workers) other = by-call m runs (plain-runs s)
-    scene-step (event.Close m) other = by-call m closes (plain-closes s)
-    scene-step (event.End m) other = by-call m ends (plain-ends s)
-    scene-step (event.Turn m) other = by-call m turns (plain-turns s)
-    scene-step (event.Show m) other = refl
-    scene-step (event.Stop m kept) other = changed-same s w m (armed_seat kept) (arming kept) (λ seat at. refl)
-    scene-step (event.Restart m) other = absurd (cc)
-    scene-step (event.RawVote m bytes) other =
-        vote-called s w m bytes
-        ∙ ap (λ (r : Rules). voted_scene s.seal r (scene_of s w) m bytes) rules
-        ∙ ap (λ (seals : Signer → List ℕ → Digest). voted_scene seals (rules_in trust.accepts (scene_of s w)) (scene_of s w) m bytes) seal
-    scene-step (event.RawHold m bytes) other = by-call m (holds bytes) (plain-holds s bytes)
-    scene-step (event.Ack m tx spoiled) other =
-        ack-same w m spoiled (made_named w tx) ∙ ap (λ (r : Rules). acked_in r (scene_of s w) m spoiled (made_named w tx)) rules
-    scene-step (event.Final tx members) other = refl
+    unfolding happens_over steps_to
+    scene-step e other = scene-move (move_of e) other
 
 shown-in : (trust : Trust) (s : Setting) (w : World) (sc : Scene) (e : Event) (next : Scene) → Shows trust s w sc → next ≡ scene_of s (happens s w e) → Shows trust s (happens s w e) next
 shown-in trust s w sc e next shows is = record { rules = shows.rules; seal = shows.seal; scene = is }

@@ -31,26 +31,8 @@ setup_unskipped (setup.Cap name owner currency) = refl
 setup_unskipped (setup.Writers limit) = refl
 
 event_unskipped : (e : Event) → is_skipped (line_text (statement.Event e)) ≡ false
-event_unskipped (event.Tx name sender spoiled epoch gas budget inputs commands) = refl
-event_unskipped (event.Vote member tx) = refl
-event_unskipped (event.Fvote member tx origins) = refl
-event_unskipped (event.Cert tx members) = refl
-event_unskipped (event.Send member tx) = refl
-event_unskipped (event.Order tx) = refl
-event_unskipped (event.OrderEnd member) = refl
 event_unskipped event.OrderCommit = refl
-event_unskipped (event.See member entries) = refl
-event_unskipped (event.Run member workers) = refl
-event_unskipped (event.Close member) = refl
-event_unskipped (event.End member) = refl
-event_unskipped (event.Turn member) = refl
-event_unskipped (event.Show member) = refl
-event_unskipped (event.Stop member kept) = refl
-event_unskipped (event.Restart member) = refl
-event_unskipped (event.RawVote member bytes) = refl
-event_unskipped (event.RawHold member bytes) = refl
-event_unskipped (event.Ack member tx spoiled) = refl
-event_unskipped (event.Final tx members) = refl
+event_unskipped e = refl
 
 unskipped : (x : Statement) → is_skipped (line_text x) ≡ false
 unskipped (statement.Setup x) = setup_unskipped x
@@ -67,26 +49,8 @@ setup_split (setup.Cap name owner currency) h = split_join is_word_byte 32 refl 
 setup_split (setup.Writers limit) h = split_join is_word_byte 32 refl _ _ h
 
 event_split : (e : Event) → EachPasses is_word_byte (statement_words (statement.Event e)) → words_of (line_text (statement.Event e)) ≡ statement_words (statement.Event e)
-event_split (event.Tx name sender spoiled epoch gas budget inputs commands) h = split_join is_word_byte 32 refl _ _ h
-event_split (event.Vote member tx) h = split_join is_word_byte 32 refl _ _ h
-event_split (event.Fvote member tx origins) h = split_join is_word_byte 32 refl _ _ h
-event_split (event.Cert tx members) h = split_join is_word_byte 32 refl _ _ h
-event_split (event.Send member tx) h = split_join is_word_byte 32 refl _ _ h
-event_split (event.Order tx) h = split_join is_word_byte 32 refl _ _ h
-event_split (event.OrderEnd member) h = split_join is_word_byte 32 refl _ _ h
 event_split event.OrderCommit h = split_join is_word_byte 32 refl _ _ h
-event_split (event.See member entries) h = split_join is_word_byte 32 refl _ _ h
-event_split (event.Run member workers) h = split_join is_word_byte 32 refl _ _ h
-event_split (event.Close member) h = split_join is_word_byte 32 refl _ _ h
-event_split (event.End member) h = split_join is_word_byte 32 refl _ _ h
-event_split (event.Turn member) h = split_join is_word_byte 32 refl _ _ h
-event_split (event.Show member) h = split_join is_word_byte 32 refl _ _ h
-event_split (event.Stop member kept) h = split_join is_word_byte 32 refl _ _ h
-event_split (event.Restart member) h = split_join is_word_byte 32 refl _ _ h
-event_split (event.RawVote member bytes) h = split_join is_word_byte 32 refl _ _ h
-event_split (event.RawHold member bytes) h = split_join is_word_byte 32 refl _ _ h
-event_split (event.Ack member tx spoiled) h = split_join is_word_byte 32 refl _ _ h
-event_split (event.Final tx members) h = split_join is_word_byte 32 refl _ _ h
+event_split e h = split_join is_word_byte 32 refl _ _ h
 
 split : (x : Statement) → IsStatement x → words_of (line_text x) ≡ statement_words x
 split (statement.Setup x) h = setup_split x (statement_passes (statement.Setup x) h)

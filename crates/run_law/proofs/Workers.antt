@@ -13,49 +13,13 @@ use Rattle.run_law.specs.Laws.{with_workers}
 
 same-happens : (s : Setting) (w : World) (n : ℕ) (e : Event) → happens s w (with_workers n e) ≡ happens s w e
 unfolding happens_over
-same-happens s w count (event.Tx name sender spoiled epoch gas budget inputs commands) = refl
-same-happens s w count (event.Vote m tx) = refl
-same-happens s w count (event.Fvote m tx origins) = refl
-same-happens s w count (event.Cert tx members) = refl
-same-happens s w count (event.Send m tx) = refl
-same-happens s w count (event.Order tx) = refl
-same-happens s w count (event.OrderEnd m) = refl
-same-happens s w count event.OrderCommit = refl
-same-happens s w count (event.See m n) = refl
 same-happens s w count (event.Run m workers) = refl
-same-happens s w count (event.Close m) = refl
-same-happens s w count (event.End m) = refl
-same-happens s w count (event.Turn m) = refl
-same-happens s w count (event.Show m) = refl
-same-happens s w count (event.Stop m kept) = refl
-same-happens s w count (event.Restart m) = refl
-same-happens s w count (event.RawVote m bytes) = refl
-same-happens s w count (event.RawHold m bytes) = refl
-same-happens s w count (event.Ack m tx spoiled) = refl
-same-happens s w count (event.Final tx members) = refl
+same-happens s w count e = refl
 
 same-lines : (s : Setting) (w : World) (n : ℕ) (e : Event) → lines_of s w (with_workers n e) ≡ lines_of s w e
 unfolding lines_over
-same-lines s w count (event.Tx name sender spoiled epoch gas budget inputs commands) = refl
-same-lines s w count (event.Vote m tx) = refl
-same-lines s w count (event.Fvote m tx origins) = refl
-same-lines s w count (event.Cert tx members) = refl
-same-lines s w count (event.Send m tx) = refl
-same-lines s w count (event.Order tx) = refl
-same-lines s w count (event.OrderEnd m) = refl
-same-lines s w count event.OrderCommit = refl
-same-lines s w count (event.See m n) = refl
 same-lines s w count (event.Run m workers) = refl
-same-lines s w count (event.Close m) = refl
-same-lines s w count (event.End m) = refl
-same-lines s w count (event.Turn m) = refl
-same-lines s w count (event.Show m) = refl
-same-lines s w count (event.Stop m kept) = refl
-same-lines s w count (event.Restart m) = refl
-same-lines s w count (event.RawVote m bytes) = refl
-same-lines s w count (event.RawHold m bytes) = refl
-same-lines s w count (event.Ack m tx spoiled) = refl
-same-lines s w count (event.Final tx members) = refl
+same-lines s w count e = refl
 
 same-report : (s : Setting) (n : ℕ) (events : List Event) (w : World) → report_from s (map (with_workers n) events) w ≡ report_from s events w
 same-report s n [] w = refl
