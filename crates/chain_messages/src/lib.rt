@@ -6,7 +6,6 @@ mod encoded;
 mod members;
 mod messages;
 mod messages_wire;
-mod shared;
 
 pub use encoded::{decode_certificate_with, decode_entry_with};
 pub use members::members_of;
@@ -15,4 +14,3 @@ pub use messages_wire::{
     decode_certificate, decode_entry, decode_sealed, decode_statement, encode_certificate,
     encode_entry, encode_sealed, encode_statement,
 };
-pub use shared::SharedCertificate;

@@ -1,6 +1,7 @@
 //! What the calls of a member answer.
 
-use chain_messages::{Sealed, SharedCertificate};
+use crate::shared::SharedCertificate;
+use chain_messages::Sealed;
 use chain_types::{ObjectId, ObjectKey, Producer};
 use checkpoint_core::HashedCheckpoint;
 use digest_core::Digest;

@@ -12,6 +12,7 @@ mod answers;
 mod pieces;
 mod refusals;
 mod sentences;
+mod shared;
 
 pub use answers::{Assigned, Held, Ignore, Left, Ran, Seen, SeenWhat, Voted};
 pub use pieces::{Executed, Gave, Given, Item, Mode, Placed};
@@ -19,3 +20,4 @@ pub use refusals::{
     AckRefusal, CloseRefusal, EndRefusal, HoldRefusal, RunRefusal, SeeRefusal, StartRefusal,
     TurnRefusal, VoteRefusal,
 };
+pub use shared::SharedCertificate;

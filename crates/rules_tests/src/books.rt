@@ -4,11 +4,11 @@ ghost use Rattle.std.specs.Prelude.{◌≡◌, []};
 
 use crate::objects::{ALICE, coin, digest, id, key, reference};
 use crate::same::{holds, same};
-use chain_messages::{Certificate, SharedCertificate};
+use chain_messages::Certificate;
 use chain_types::{DecideRefusal, Input, ObjectRef, Transaction, object_digest};
 use digest_core::Digest;
 use lock_table::{LockRefusal, LockTable};
-use protocol_spec::Held;
+use protocol_spec::{Held, SharedCertificate};
 use std::alloc::Global;
 use std::process::Abort;
 use version_store::Store;

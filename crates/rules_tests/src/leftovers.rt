@@ -7,12 +7,12 @@ use crate::objects::{ALICE, coin, digest, id, key};
 use crate::same::{holds, same};
 use crate::sequences::is_admitted;
 use crate::stores::{opened, takes};
-use chain_messages::{Certificate, SharedCertificate};
+use chain_messages::Certificate;
 use chain_types::{
     Content, Input, Object, ObjectKey, ObjectRef, Owner, Transaction, object_digest,
 };
 use exec_plan::{Waiting, left};
-use protocol_spec::Held;
+use protocol_spec::{Held, SharedCertificate};
 use std::alloc::Global;
 use std::process::Abort;
 use version_assign::Admission;

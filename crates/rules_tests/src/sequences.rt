@@ -5,8 +5,9 @@ ghost use Rattle.protocol_spec.specs.Chain.Keys.{objects_of};
 
 use crate::objects::{ALICE, digest, reference};
 use crate::same::{holds, same};
-use chain_messages::{Certificate, SharedCertificate};
+use chain_messages::Certificate;
 use chain_types::{Command, Transaction};
+use protocol_spec::SharedCertificate;
 use std::alloc::Global;
 use std::process::Abort;
 use tx_check::check_shape;

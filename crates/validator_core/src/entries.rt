@@ -13,11 +13,9 @@ ghost use Rattle.validator_core.specs.Limits.{terms_at};
 
 use crate::state::State;
 use cert_rules::check_cert;
-use chain_messages::{
-    Certificate, Entry, Sealed, SharedCertificate, Statement, decode_entry_with, encode_statement,
-};
+use chain_messages::{Certificate, Entry, Sealed, Statement, decode_entry_with, encode_statement};
 use chain_types::{CertRefusal, encoded_digest};
-use protocol_spec::{Held, Ignore};
+use protocol_spec::{Held, Ignore, SharedCertificate};
 use quorum_core::{Committee, Sealer, Signer};
 use wire_bcs::{OutOfMemory, Unread};
 

@@ -21,11 +21,11 @@ use crate::holds::Holding;
 use crate::runs::ran_items;
 use crate::state::State;
 use cert_rules::same_origins;
-use chain_messages::{Certificate, SharedCertificate};
+use chain_messages::Certificate;
 use chain_types::{Transaction, tx_digest};
 use digest_core::Digest;
 use journal_core::{RanItem, Record};
-use protocol_spec::{Held, HoldRefusal, VoteRefusal};
+use protocol_spec::{Held, HoldRefusal, SharedCertificate, VoteRefusal};
 use quorum_core::{Committee, Sealer};
 use wire_bcs::{OutOfMemory, Seq};
 

@@ -19,11 +19,10 @@ use crate::book::{Admit, Book, Row, push_in_room};
 use crate::excerpt::Candidate;
 use crate::lines::{Line, clear_lines, make_lines};
 use crate::taken::Taken;
-use chain_messages::SharedCertificate;
 use chain_types::ObjectId;
 use digest_core::Digest;
 use indexmap::{IndexMap, IndexSet};
-use protocol_spec::Assigned;
+use protocol_spec::{Assigned, SharedCertificate};
 use std::alloc::Global;
 use wire_bcs::{OutOfMemory, Seq};
 

@@ -5,9 +5,9 @@ ghost use Rattle.protocol_spec.specs.Chain.Keys.{mutable_id};
 ghost use Rattle.protocol_spec.specs.Member.Admission.{mutable_ids};
 ghost use Rattle.version_assign.specs.Lines.{greater_named, named_version};
 
-use chain_messages::SharedCertificate;
 use chain_types::{Input, ObjectId};
 use digest_core::Digest;
+use protocol_spec::SharedCertificate;
 use std::alloc::Global;
 use std::marker::Model;
 use wire_bcs::OutOfMemory;

@@ -15,8 +15,8 @@ ghost use Rattle.version_assign.specs.Steps.{HasRowRoom, is_free_one};
 use crate::book::{Book, Row};
 use crate::taken::Taken;
 use crate::waits::Waits;
-use chain_messages::SharedCertificate;
 use digest_core::Digest;
+use protocol_spec::SharedCertificate;
 use std::alloc::Global;
 use wire_bcs::OutOfMemory;
 

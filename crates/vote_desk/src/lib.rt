@@ -21,6 +21,7 @@ mod desk;
 mod entry;
 mod kept;
 mod law;
+mod scratch;
 mod serial;
 mod standing;
 mod sure;

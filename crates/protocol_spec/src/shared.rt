@@ -2,7 +2,7 @@
 
 ghost use Rattle.std.specs.Prelude.{◌≡◌, IfOk};
 
-use crate::messages::Certificate;
+use chain_messages::Certificate;
 use std::alloc::Global;
 use std::marker::Model;
 use std::sync::Arc;
