@@ -20,8 +20,8 @@ use Rattle.protocol_spec.specs.declared.pieces.Item.{Item}
 use Rattle.protocol_spec.specs.declared.pieces.Placed.{Placed}
 use Rattle.protocol_spec.specs.declared.pieces.Gave.{Gave}
 use Rattle.protocol_spec.specs.declared.pieces.Gave.TheVariants as gave
-use Rattle.protocol_spec.specs.declared.pieces.Mode.{Mode}
-use Rattle.protocol_spec.specs.declared.pieces.Mode.TheVariants as mode
+use Rattle.chain_types.specs.declared.natives.Mode.{Mode}
+use Rattle.chain_types.specs.declared.natives.Mode.TheVariants as mode
 use Rattle.protocol_spec.proofs.ListLemmas.{each_join, all_none}
 use Rattle.protocol_spec.proofs.Truth.{where_false, map_none}
 use Rattle.protocol_spec.proofs.Gifts.{takes_vault}

@@ -18,8 +18,8 @@ use Rattle.protocol_spec.specs.declared.pieces.Given.TheVariants as given
 use Rattle.protocol_spec.specs.declared.pieces.Placed.{Placed}
 use Rattle.protocol_spec.specs.declared.pieces.Gave.{Gave}
 use Rattle.protocol_spec.specs.declared.pieces.Gave.TheVariants as gave
-use Rattle.protocol_spec.specs.declared.pieces.Mode.{Mode}
-use Rattle.protocol_spec.specs.declared.pieces.Mode.TheVariants as mode
+use Rattle.chain_types.specs.declared.natives.Mode.{Mode}
+use Rattle.chain_types.specs.declared.natives.Mode.TheVariants as mode
 use Rattle.protocol_spec.specs.Chain.Words.{Each}
 use Rattle.protocol_spec.specs.Chain.Tests.{kind_eq}
 use Rattle.protocol_spec.specs.Block.Natives.{currency_of, amount_of, holding, parameters_of, amount_limit, names_vault, may_be_shared, no_item, number_given, number_at, item_given, item_at, items_given, items_at, Site, new_item, gives, owned_by_all, abort_if, other_currency, joined, coin_mint, coin_burn, counter_add, counter_require, vault_new, vault_deposit, vault_withdraw, share, counter_add_limited, natives, gave_at, native_gives}
