@@ -12,6 +12,7 @@ use Rattle.chain_types.specs.declared.objects.Content.{Content}
 use Rattle.chain_types.specs.declared.objects.Content.TheVariants as content
 use Rattle.chain_types.specs.declared.objects.Owner.{Owner}
 use Rattle.chain_types.specs.declared.objects.Owner.TheVariants as owner
+use Rattle.chain_types.specs.declared.natives.TheConstants.{NATIVES}
 use Rattle.protocol_spec.specs.declared.pieces.Item.{Item}
 use Rattle.protocol_spec.specs.declared.pieces.Given.{Given}
 use Rattle.protocol_spec.specs.declared.pieces.Given.TheVariants as given
@@ -22,7 +23,7 @@ use Rattle.chain_types.specs.declared.natives.Mode.{Mode}
 use Rattle.chain_types.specs.declared.natives.Mode.TheVariants as mode
 use Rattle.protocol_spec.specs.Chain.Words.{Each}
 use Rattle.protocol_spec.specs.Chain.Tests.{kind_eq}
-use Rattle.protocol_spec.specs.Block.Natives.{currency_of, amount_of, holding, parameters_of, amount_limit, names_vault, may_be_shared, no_item, number_given, number_at, item_given, item_at, items_given, items_at, Site, new_item, gives, owned_by_all, abort_if, other_currency, joined, coin_mint, coin_burn, counter_add, counter_require, vault_new, vault_deposit, vault_withdraw, share, counter_add_limited, natives, gave_at, native_gives}
+use Rattle.protocol_spec.specs.Block.Natives.{currency_of, amount_of, holding, parameters_of, amount_limit, names_vault, may_be_shared, no_item, number_given, number_at, item_given, item_at, items_given, items_at, Site, new_item, gives, owned_by_all, abort_if, other_currency, joined, coin_mint, coin_burn, counter_add, counter_require, vault_new, vault_deposit, vault_withdraw, share, counter_add_limited, native_gives}
 
 -- ---- what is said of a gift
 
@@ -106,15 +107,15 @@ module _ (P : Item → Type 0) (N : ℕ → Type 0) where
 
 -- ---- by number
 
--- what is said of each native by its number
-abbrev EachNumber : (ℕ → Gave → Type 0) → List Gave → Type 0
-EachNumber F [] = Unit {0}
-EachNumber F (g ∷ gs) = F 0 g × EachNumber (λ (n : ℕ) (g : Gave). F (suc n) g) gs
+-- a fact of the number of each element, and of every number past the end
+abbrev pub EachNumber : {A : Type 0} → (ℕ → Type 0) → List A → Type 0
+EachNumber F [] = (n : ℕ) → F n
+EachNumber F (x ∷ xs) = F 0 × EachNumber (λ (n : ℕ). F (suc n)) xs
 
-number-of : (F : ℕ → Gave → Type 0) → ((n : ℕ) → F n (gave.Abort 0)) → (gs : List Gave) → EachNumber F gs → (n : ℕ) → F n (gave_at (slice_get gs n))
-number-of F none [] each n = none n
-number-of F none (g ∷ gs) each zero = each.0
-number-of F none (g ∷ gs) each (suc n) = number-of (λ (k : ℕ) (g : Gave). F (suc k) g) (λ (k : ℕ). none (suc k)) gs each.1 n
+pub at-number : {A : Type 0} (F : ℕ → Type 0) (xs : List A) → EachNumber F xs → (n : ℕ) → F n
+at-number F [] each n = each n
+at-number F (x ∷ xs) each zero = each.0
+at-number F (x ∷ xs) each (suc n) = at-number (λ (k : ℕ). F (suc k)) xs each.1 n
 
 nothing : 0 < amount_limit
 nothing = omega arith
@@ -271,13 +272,17 @@ module _ (P : Item → Type 0) (N : ℕ → Type 0) (none : P no_item) (none_num
         last : Gave
         last = gives s [] (Some (holding (amount_of counter.content + n) counter))
 
-  -- ---- all of them, by number
+  -- ---- all of them
 
   number-is : N (number_at args 0)
   number-is = number-had args handed 0
 
-  each-native : EachNumber (Gift P N s args) (natives s args)
-  each-native = (
+  abbrev IsGiven : ℕ → Type 0
+  IsGiven native = Gift P N s args native (native_gives native s args)
+
+  each-given : EachNumber IsGiven NATIVES
+  unfolding native_gives
+  each-given = (
     new-one 0 (content.Coin (number_at args 0) 0) (inl nothing),
     (
       minted 1 one (number_at args 1) one-had,
@@ -303,7 +308,7 @@ module _ (P : Item → Type 0) (N : ℕ → Type 0) (none : P no_item) (none_num
                           given-away 11 one owner.Immutable one-had tt,
                           (
                             new-one 12 (content.Limit (number_at args 0)) (inr (inl (number_at args 0, number-is, inr refl))),
-                            (limited 13 one (number_at args 1) (item_at args 2) one-had, tt),
+                            (limited 13 one (number_at args 1) (item_at args 2) one-had, λ n. tt),
                           ),
                         ),
                       ),
@@ -319,8 +324,7 @@ module _ (P : Item → Type 0) (N : ℕ → Type 0) (none : P no_item) (none_num
   )
 
   pub gift : (native : ℕ) → Gift P N s args native (native_gives native s args)
-  unfolding native_gives
-  gift native = number-of (Gift P N s args) (λ (n : ℕ). tt) (natives s args) each-native native
+  gift native = at-number IsGiven NATIVES each-given native
 
 -- ---- of any arguments
 
