@@ -29,26 +29,27 @@ pub struct Native {
 /// The number of the last native.
 pub const LAST_NATIVE: u8 = 13;
 
-/// The natives, by number. Above each: its parameters, what it gives, and what its codes say, from 1 on.
+/// The natives, by number. A comment says of each, between bars: what it takes, what it gives, and
+/// why it aborts with 1, 2 and so on. `tools/pages` writes the manual's table from here.
 pub static NATIVES: [Native; 14] = [
     // a currency | an empty coin
     Native {
         name: b"coin_zero",
         parameters: &[Mode::Number],
     },
-    // a cap, an amount | a coin of the cap's currency; the supply rises | the supply would pass 64 bits
+    // a cap, an amount | a coin of the cap's currency; the supply rises | supply above 64 bits
     Native {
         name: b"coin_mint",
         parameters: &[Mode::ByMut(Kind::Cap), Mode::Number],
     },
     // a cap, a coin | nothing; the coin is gone, the supply falls
-    // | the coin has another currency than the cap | the supply is below the coin
+    // | another currency than the cap | supply below the coin
     Native {
         name: b"coin_burn",
         parameters: &[Mode::ByMut(Kind::Cap), Mode::ByValue(Some(Kind::Coin))],
     },
     // a vector of coins | the first of them, with the sum of all
-    // | the vector is empty | the coins have two currencies | the sum would pass 64 bits
+    // | no coins | two currencies | sum above 64 bits
     Native {
         name: b"coin_join_all",
         parameters: &[Mode::Coins],
@@ -58,7 +59,7 @@ pub static NATIVES: [Native; 14] = [
         name: b"counter_new",
         parameters: &[Mode::Number],
     },
-    // a counter, an amount | nothing | the sum would pass 64 bits
+    // a counter, an amount | nothing | sum above 64 bits
     Native {
         name: b"counter_add",
         parameters: &[Mode::ByMut(Kind::Counter), Mode::Number],
@@ -74,12 +75,12 @@ pub static NATIVES: [Native; 14] = [
         parameters: &[Mode::Number],
     },
     // a vault, a coin | nothing; the coin is gone
-    // | the coin has another currency than the vault | the sum would pass 64 bits
+    // | another currency than the vault | sum above 64 bits
     Native {
         name: b"vault_deposit",
         parameters: &[Mode::ByMut(Kind::Vault), Mode::ByValue(Some(Kind::Coin))],
     },
-    // a vault, its key, an amount | a coin | the key is of another vault | the vault has less
+    // a vault, its key, an amount | a coin | the key of another vault | the vault has less
     Native {
         name: b"vault_withdraw",
         parameters: &[
@@ -88,13 +89,13 @@ pub static NATIVES: [Native; 14] = [
             Mode::Number,
         ],
     },
-    // a counter or a vault that this block made | nothing; anybody may name it from now on
-    // | this block did not make it | it is neither a counter nor a vault
+    // a counter or vault of this block | nothing; anybody may name it from now on
+    // | not created in this block | neither a counter nor a vault
     Native {
         name: b"share",
         parameters: &[Mode::ByValue(None)],
     },
-    // an object | nothing; it is immutable from now on
+    // any object | nothing; it is immutable from now on
     Native {
         name: b"freeze",
         parameters: &[Mode::ByValue(None)],
@@ -104,7 +105,7 @@ pub static NATIVES: [Native; 14] = [
         name: b"limit_new",
         parameters: &[Mode::Number],
     },
-    // a counter, an amount, a limit | nothing | the sum would pass 64 bits | the sum would pass the limit
+    // a counter, an amount, a limit | nothing | sum above 64 bits | sum above the limit
     Native {
         name: b"counter_add_limited",
         parameters: &[
