@@ -18,7 +18,7 @@ WAYS = {
     "Number": ("n", "the number of {}"), "ByValue": ("v", "{} (used up)"), "Coins": ("v", "{} (used up)"),
     "ByMut": ("m", "{} (to be changed)"), "ByRef": ("r", "{} (to be read)"),
 }
-ROW = re.compile(r'(?m)^((?: *// .*\n)+) *Native \{\s+name: b"(\w+)",\s+parameters: &\[([^\]]*)\],\s+\}')
+ROW = re.compile(r'(?m)^((?: *// .*\n)+) *\(\s*b"(\w+)",\s*&\[([^\]]*)\],?\s*\),$')
 
 
 def natives_in(text):

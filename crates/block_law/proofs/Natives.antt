@@ -12,7 +12,6 @@ use Rattle.chain_types.specs.declared.objects.Kind.{Kind}
 use Rattle.chain_types.specs.declared.objects.Kind.TheVariants as kind
 use Rattle.chain_types.specs.declared.objects.Content.{Content}
 use Rattle.chain_types.specs.declared.objects.Content.TheVariants as content
-use Rattle.chain_types.specs.declared.natives.TheConstants.{NATIVES}
 use Rattle.chain_types.specs.declared.transactions.Argument.{Argument}
 use Rattle.chain_types.specs.declared.transactions.Command.{Command}
 use Rattle.chain_types.specs.declared.transactions.Transaction.{Transaction}
@@ -27,7 +26,7 @@ use Rattle.protocol_spec.proofs.Gifts.{EachNumber, at-number}
 use Rattle.protocol_spec.specs.Chain.Words.{Each}
 use Rattle.protocol_spec.specs.Chain.Tests.{kind_eq}
 use Rattle.protocol_spec.specs.Chain.Keys.{money_of}
-use Rattle.protocol_spec.specs.Block.Natives.{parameters_of, native_gives, kind_of, currency_of, amount_of, holding, Site, new_item, amount_limit, item_given, items_given, item_at, number_at, gives, owned_by_all, abort_if, other_currency, joined, coin_mint, coin_burn, counter_add, counter_require, vault_new, vault_deposit, vault_withdraw, share, counter_add_limited, names_vault, may_be_shared}
+use Rattle.protocol_spec.specs.Block.Natives.{parameters, parameters_of, native_gives, kind_of, currency_of, amount_of, holding, Site, new_item, amount_limit, item_given, items_given, item_at, number_at, gives, owned_by_all, abort_if, other_currency, joined, coin_mint, coin_burn, counter_add, counter_require, vault_new, vault_deposit, vault_withdraw, share, counter_add_limited, names_vault, may_be_shared}
 use Rattle.protocol_spec.specs.Block.Block.{Place, Value, pure, object, vector, Slot, Block, place_eq, value_in, result_slots, with_results}
 use Rattle.protocol_spec.specs.Block.Commands.{Fault, Need, number, by_value, by_mut, by_ref, coins, paired, place_of, is_pure, is_right_kind, is_transfer, is_frozen_place, stays_in_place, given_as, given_all, spend_all, spend_taken, put_changed, put_back, placed_list, called_block, called, site}
 use Rattle.block_law.specs.Money.{supply_of, caps_of}
@@ -567,7 +566,7 @@ module _ (t : Transaction) (tx : Digest) (version c : ℕ) (first : List Slot) (
   abbrev IsCall : ℕ → Type 0
   IsCall native = (args : List Argument) (after : Block) → (length args == length (parameters_of native)) ≡ true → Goes native after args
 
-  each-call : EachNumber IsCall NATIVES
+  each-call : EachNumber IsCall parameters
   unfolding native_gives
   each-call = (
     λ args after e. with-one 0 after args e (λ x read gave. new-step ((x, number) ∷ []) (content.Coin (number_at (given_all b ((x, number) ∷ [])) 0) 0) after refl (zero-coin (number_at (given_all b ((x, number) ∷ [])) 0)) gave),
@@ -614,4 +613,4 @@ module _ (t : Transaction) (tx : Digest) (version c : ℕ) (first : List Slot) (
   )
 
   pub call-step : (native : ℕ) (args : List Argument) (after : Block) → (length args == length (parameters_of native)) ≡ true → Goes native after args
-  call-step native = at-number IsCall NATIVES each-call native
+  call-step native = at-number IsCall parameters each-call native

@@ -25,14 +25,12 @@ use Rattle.protocol_spec.specs.declared.pieces.Placed.{Placed}
 use Rattle.protocol_spec.specs.declared.pieces.Gave.{Gave}
 use Rattle.protocol_spec.specs.declared.pieces.Gave.TheVariants as gave
 use Rattle.chain_types.specs.declared.natives.Mode.{Mode}
-use Rattle.chain_types.specs.declared.natives.Native.{Native}
-use Rattle.chain_types.specs.declared.natives.TheConstants.{NATIVES}
 use Rattle.protocol_spec.proofs.ListLemmas.{all_none, and-first, and-second, each_as, has_left, has_right, append_nil, has_map}
 use Rattle.protocol_spec.proofs.Truth.{where_false, map_none}
 use Rattle.protocol_spec.specs.Chain.Words.{Each, Has, first_some, where_true}
 use Rattle.protocol_spec.specs.Chain.Tests.{kind_eq}
 use Rattle.protocol_spec.specs.Chain.Keys.{version_of}
-use Rattle.protocol_spec.specs.Block.Natives.{kind_of, amount_of, with_amount, holding, parameters_in, parameters_of, amount_limit, native_gives}
+use Rattle.protocol_spec.specs.Block.Natives.{kind_of, amount_of, with_amount, holding, parameters, parameters_at, parameters_of, amount_limit, native_gives}
 use Rattle.protocol_spec.specs.Block.Block.{Place, gas, input, result, Value, pure, object, vector, Slot, Block, value_in, put_in, result_slots}
 use Rattle.protocol_spec.specs.Block.Commands.{Fault, cause, Need, number, address, by_value, by_mut, by_ref, coins, need_of, paired, all_by, needs_of, place_of, is_right_kind, is_transfer, takes_value, stays_in_place, wrong_count, arguments_cause, taken_cause, piece_of, item_in, items_in, number_in, spend, spend_all, split, split_block, withheld, sum_of, merge_cases, merge_block, merge, placed_at, address_in, transfer_block, vector_block, given_all, spend_taken, put_changed, placed_list, called_block, called, site, performed, command_step}
 use Rattle.protocol_spec.specs.Block.Execution.{Failure, gas_item, input_slots, first_block, commands_from, commands_next, is_unused, checked_end, outcome}
@@ -280,16 +278,13 @@ module _ (t : Transaction) (id : ObjectId) where
     first_right [] = true
     first_right (m ∷ ms) = no_coin (need_of m)
 
-    abbrev is_right : Native → Bool
-    is_right n = first_right n.parameters.now
-
-    right-at : (table : List Native) (native : ℕ) → list_all is_right table ≡ true → first_right (parameters_in (slice_get table native)) ≡ true
+    right-at : (table : List (List Mode)) (native : ℕ) → list_all first_right table ≡ true → first_right (parameters_at (slice_get table native)) ≡ true
     right-at [] native all = refl
-    right-at (n ∷ table) zero all = and-first (is_right n) (list_all is_right table) all
-    right-at (n ∷ table) (suc native) all = right-at table native (and-second (is_right n) (list_all is_right table) all)
+    right-at (modes ∷ table) zero all = and-first (first_right modes) (list_all first_right table) all
+    right-at (modes ∷ table) (suc native) all = right-at table native (and-second (first_right modes) (list_all first_right table) all)
 
     first-right : (native : ℕ) → first_right (parameters_of native) ≡ true
-    first-right native = right-at NATIVES native refl
+    first-right native = right-at parameters native refl
 
     first-need : (args : List Argument) (modes : List Mode) → first_right modes ≡ true → FirstIsNoCoin (paired args modes)
     first-need [] modes right = tt

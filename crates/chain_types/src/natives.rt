@@ -17,14 +17,9 @@ pub enum Mode {
     Coins,
 }
 
-/// What is known of a native before it is called.
-#[derive(Clone, Copy)]
-pub struct Native {
-    /// Its name in a schedule.
-    pub name: &'static [u8],
-    /// How it takes each of its parameters.
-    pub parameters: &'static [Mode],
-}
+/// What is known of a native before it is called: its name in a schedule, and how it takes each of its
+/// parameters.
+pub type Native = (&'static [u8], &'static [Mode]);
 
 /// The number of the last native.
 pub const LAST_NATIVE: u8 = 13;
@@ -33,85 +28,53 @@ pub const LAST_NATIVE: u8 = 13;
 /// why it aborts with 1, 2 and so on. `tools/pages` writes the manual's table from here.
 pub static NATIVES: [Native; 14] = [
     // a currency | an empty coin
-    Native {
-        name: b"coin_zero",
-        parameters: &[Mode::Number],
-    },
+    (b"coin_zero", &[Mode::Number]),
     // a cap, an amount | a coin of the cap's currency; the supply rises | supply above 64 bits
-    Native {
-        name: b"coin_mint",
-        parameters: &[Mode::ByMut(Kind::Cap), Mode::Number],
-    },
+    (b"coin_mint", &[Mode::ByMut(Kind::Cap), Mode::Number]),
     // a cap, a coin | nothing; the coin is gone, the supply falls
     // | another currency than the cap | supply below the coin
-    Native {
-        name: b"coin_burn",
-        parameters: &[Mode::ByMut(Kind::Cap), Mode::ByValue(Some(Kind::Coin))],
-    },
+    (
+        b"coin_burn",
+        &[Mode::ByMut(Kind::Cap), Mode::ByValue(Some(Kind::Coin))],
+    ),
     // a vector of coins | the first of them, with the sum of all
     // | no coins | two currencies | sum above 64 bits
-    Native {
-        name: b"coin_join_all",
-        parameters: &[Mode::Coins],
-    },
+    (b"coin_join_all", &[Mode::Coins]),
     // a value | a counter
-    Native {
-        name: b"counter_new",
-        parameters: &[Mode::Number],
-    },
+    (b"counter_new", &[Mode::Number]),
     // a counter, an amount | nothing | sum above 64 bits
-    Native {
-        name: b"counter_add",
-        parameters: &[Mode::ByMut(Kind::Counter), Mode::Number],
-    },
+    (
+        b"counter_add",
+        &[Mode::ByMut(Kind::Counter), Mode::Number],
+    ),
     // a counter, the least value | nothing | the counter has less
-    Native {
-        name: b"counter_require",
-        parameters: &[Mode::ByRef(Kind::Counter), Mode::Number],
-    },
+    (
+        b"counter_require",
+        &[Mode::ByRef(Kind::Counter), Mode::Number],
+    ),
     // a currency | an empty vault, and its key
-    Native {
-        name: b"vault_new",
-        parameters: &[Mode::Number],
-    },
+    (b"vault_new", &[Mode::Number]),
     // a vault, a coin | nothing; the coin is gone
     // | another currency than the vault | sum above 64 bits
-    Native {
-        name: b"vault_deposit",
-        parameters: &[Mode::ByMut(Kind::Vault), Mode::ByValue(Some(Kind::Coin))],
-    },
+    (
+        b"vault_deposit",
+        &[Mode::ByMut(Kind::Vault), Mode::ByValue(Some(Kind::Coin))],
+    ),
     // a vault, its key, an amount | a coin | the key of another vault | the vault has less
-    Native {
-        name: b"vault_withdraw",
-        parameters: &[
-            Mode::ByMut(Kind::Vault),
-            Mode::ByRef(Kind::VaultKey),
-            Mode::Number,
-        ],
-    },
+    (
+        b"vault_withdraw",
+        &[Mode::ByMut(Kind::Vault), Mode::ByRef(Kind::VaultKey), Mode::Number],
+    ),
     // a counter or vault of this block | nothing; anybody may name it from now on
     // | not created in this block | neither a counter nor a vault
-    Native {
-        name: b"share",
-        parameters: &[Mode::ByValue(None)],
-    },
+    (b"share", &[Mode::ByValue(None)]),
     // any object | nothing; it is immutable from now on
-    Native {
-        name: b"freeze",
-        parameters: &[Mode::ByValue(None)],
-    },
+    (b"freeze", &[Mode::ByValue(None)]),
     // a value | a limit
-    Native {
-        name: b"limit_new",
-        parameters: &[Mode::Number],
-    },
+    (b"limit_new", &[Mode::Number]),
     // a counter, an amount, a limit | nothing | sum above 64 bits | sum above the limit
-    Native {
-        name: b"counter_add_limited",
-        parameters: &[
-            Mode::ByMut(Kind::Counter),
-            Mode::Number,
-            Mode::ByRef(Kind::Limit),
-        ],
-    },
+    (
+        b"counter_add_limited",
+        &[Mode::ByMut(Kind::Counter), Mode::Number, Mode::ByRef(Kind::Limit)],
+    ),
 ];

@@ -12,7 +12,6 @@ use Rattle.chain_types.specs.declared.objects.Content.{Content}
 use Rattle.chain_types.specs.declared.objects.Content.TheVariants as content
 use Rattle.chain_types.specs.declared.objects.Owner.{Owner}
 use Rattle.chain_types.specs.declared.objects.Owner.TheVariants as owner
-use Rattle.chain_types.specs.declared.natives.TheConstants.{NATIVES}
 use Rattle.protocol_spec.specs.declared.pieces.Item.{Item}
 use Rattle.protocol_spec.specs.declared.pieces.Given.{Given}
 use Rattle.protocol_spec.specs.declared.pieces.Given.TheVariants as given
@@ -23,7 +22,7 @@ use Rattle.chain_types.specs.declared.natives.Mode.{Mode}
 use Rattle.chain_types.specs.declared.natives.Mode.TheVariants as mode
 use Rattle.protocol_spec.specs.Chain.Words.{Each}
 use Rattle.protocol_spec.specs.Chain.Tests.{kind_eq}
-use Rattle.protocol_spec.specs.Block.Natives.{currency_of, amount_of, holding, parameters_of, amount_limit, names_vault, may_be_shared, no_item, number_given, number_at, item_given, item_at, items_given, items_at, Site, new_item, gives, owned_by_all, abort_if, other_currency, joined, coin_mint, coin_burn, counter_add, counter_require, vault_new, vault_deposit, vault_withdraw, share, counter_add_limited, native_gives}
+use Rattle.protocol_spec.specs.Block.Natives.{currency_of, amount_of, holding, parameters, parameters_of, amount_limit, names_vault, may_be_shared, no_item, number_given, number_at, item_given, item_at, items_given, items_at, Site, new_item, gives, owned_by_all, abort_if, other_currency, joined, coin_mint, coin_burn, counter_add, counter_require, vault_new, vault_deposit, vault_withdraw, share, counter_add_limited, native_gives}
 
 -- ---- what is said of a gift
 
@@ -280,7 +279,7 @@ module _ (P : Item → Type 0) (N : ℕ → Type 0) (none : P no_item) (none_num
   abbrev IsGiven : ℕ → Type 0
   IsGiven native = Gift P N s args native (native_gives native s args)
 
-  each-given : EachNumber IsGiven NATIVES
+  each-given : EachNumber IsGiven parameters
   unfolding native_gives
   each-given = (
     new-one 0 (content.Coin (number_at args 0) 0) (inl nothing),
@@ -324,7 +323,7 @@ module _ (P : Item → Type 0) (N : ℕ → Type 0) (none : P no_item) (none_num
   )
 
   pub gift : (native : ℕ) → Gift P N s args native (native_gives native s args)
-  gift native = at-number IsGiven NATIVES each-given native
+  gift native = at-number IsGiven parameters each-given native
 
 -- ---- of any arguments
 

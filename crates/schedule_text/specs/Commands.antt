@@ -2,7 +2,6 @@
 use Rattle.std.specs.Prelude.{◌==◌, ℕ, Bool, true, false, ◌&&◌, List, [], ◌∷◌, Option, Some, None, option_map, is_some, map, position, codes, if◌then◌else◌}
 use Rattle.std.specs.List.{list_all, slice_split}
 use Rattle.std.specs.Str.{bytes_eq}
-use Rattle.chain_types.specs.declared.natives.Native.{Native}
 use Rattle.chain_types.specs.declared.natives.TheConstants.{NATIVES}
 use Rattle.schedule_text.specs.declared.commands.CommandKind.{CommandKind}
 use Rattle.schedule_text.specs.declared.commands.CommandKind.TheVariants as kind
@@ -53,7 +52,7 @@ call_words (b ∷ bs) = comma_parts (b ∷ bs)
 
 -- the names of the natives, by number
 abbrev pub native_names : List (List ℕ)
-native_names = map (λ (n : Native). n.name.now) NATIVES
+native_names = map (λ native. native.0.now) NATIVES
 
 unfoldable pub native_of : List ℕ → Option ℕ
 native_of name = position (λ n. bytes_eq n name) native_names

@@ -37,10 +37,10 @@ fn place_among(names: &[&[u8]], name: &[u8]) -> Option<usize>
 
 /// The place of a name among natives.
 fn native_among(natives: &[Native], name: &[u8]) -> Option<usize>
-    ensures value { result ≡ position (λ n. bytes_eq n.name.now name.now) natives.now }
+    ensures value { result ≡ position (λ n. bytes_eq n.0.now name.now) natives.now }
     ensures low { IfSome result (λ place. place < length natives.now) }
 {
-    natives.iter().position(|native| native.name == name)
+    natives.iter().position(|native| native.0 == name)
 }
 
 #[tactic(auto, unfolding(crate::specs::Commands::native_of))]

@@ -1,6 +1,6 @@
 -- The natives, which stand in for Move code: what they give. Their names and parameters are the table `NATIVES` of
 -- `chain_types`. Source: this profile.
-use Rattle.std.specs.Prelude.{ℕ, ◌+◌, ◌-◌, Bool, true, false, not, ◌==◌, nat_lt, nat_le, List, [], ◌∷◌, sum_by, slice_get, Option, Some, None}
+use Rattle.std.specs.Prelude.{ℕ, ◌+◌, ◌-◌, Bool, true, false, not, ◌==◌, nat_lt, nat_le, List, [], ◌∷◌, map, sum_by, slice_get, Option, Some, None}
 use Rattle.std.specs.List.{list_any}
 use Rattle.digest_core.specs.declared.Digest.{Digest}
 use Rattle.digest_core.specs.Tagged.{created_id_of}
@@ -12,7 +12,6 @@ use Rattle.chain_types.specs.declared.objects.Content.TheVariants as content
 use Rattle.chain_types.specs.declared.objects.Owner.{Owner}
 use Rattle.chain_types.specs.declared.objects.Owner.TheVariants as owner
 use Rattle.chain_types.specs.declared.natives.Mode.{Mode}
-use Rattle.chain_types.specs.declared.natives.Native.{Native}
 use Rattle.chain_types.specs.declared.natives.TheConstants.{NATIVES}
 use Rattle.protocol_spec.specs.declared.pieces.Item.{Item}
 use Rattle.protocol_spec.specs.declared.pieces.Given.{Given}
@@ -78,14 +77,18 @@ may_be_shared (content.Limit value) = false
 
 -- ---- parameters
 
--- a valid shape names only the natives of the table, so another number never comes
-abbrev pub parameters_in : Option Native → List Mode
-parameters_in None = []
-parameters_in (Some native) = native.parameters.now
+-- how each native takes its parameters: by value, by mutable reference, by reference, or a number
+abbrev pub parameters : List (List Mode)
+parameters = map (λ native. native.1.now) NATIVES
 
--- how the native of this number takes its parameters: by value, by mutable reference, by reference, or a number
+-- a valid shape names only the natives of the table, so another number never comes
+abbrev pub parameters_at : Option (List Mode) → List Mode
+parameters_at None = []
+parameters_at (Some modes) = modes
+
+-- the parameters of a native
 abbrev pub parameters_of : ℕ → List Mode
-parameters_of native = parameters_in (slice_get NATIVES native)
+parameters_of native = parameters_at (slice_get parameters native)
 
 -- how a native takes the parameter at this place, none if it has no such parameter
 unfoldable pub mode_of : ℕ → ℕ → Option Mode
