@@ -1,4 +1,4 @@
-//! The fourteen natives, which stand in for code that is published.
+//! The natives, which stand in for code that is published.
 
 use crate::block::{Block, Cause, Halt, Item, Mode, Source, Value};
 use crate::types::{Argument, Content, Kind, Owner};

@@ -1,5 +1,6 @@
 //! The faults of a transaction by itself.
 
+use crate::natives::NAMES;
 use crate::types::{Argument, Command, Input, Transaction};
 
 const MAX_BYTES: usize = 131_072;
@@ -7,7 +8,6 @@ const MAX_COMMANDS: usize = 1024;
 const MAX_INPUTS: usize = 256;
 const MAX_ARGUMENTS: usize = 512;
 const MAX_VERSION: u64 = (1 << 62) - 2;
-const LAST_NATIVE: u8 = 13;
 
 /// The least number of a fault that the transaction has, which is spelled in so many bytes.
 pub fn fault_of(tx: &Transaction, bytes: usize) -> Option<u8> {
@@ -20,7 +20,7 @@ pub fn fault_of(tx: &Transaction, bytes: usize) -> Option<u8> {
         (6, &|| arguments(tx).any(|(_, it)| matches!(it, Argument::Input(n) if usize::from(n) >= tx.inputs.len()))),
         (7, &|| arguments(tx).any(|(command, it)| is_not_earlier(it, command))),
         (8, &|| tx.commands.iter().any(lacks_operands)),
-        (9, &|| tx.commands.iter().any(|it| matches!(it, Command::Call { native, .. } if *native > LAST_NATIVE))),
+        (9, &|| tx.commands.iter().any(|it| matches!(it, Command::Call { native, .. } if usize::from(*native) >= NAMES.len()))),
         (10, &|| tx.budget < tx.cost()),
         (11, &|| tx.objects().any(|object| !(1..=MAX_VERSION).contains(&object.key().version))),
         (12, &|| tx.commands.iter().any(|it| argument_count(it) > MAX_ARGUMENTS)),

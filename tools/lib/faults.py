@@ -146,7 +146,7 @@ def bad_form(line):
     word = bad_word(line)
     if word:
         return word
-    if any(len(it) > 16 for it in re.findall(r"[a-z][a-z0-9_]*", line.text) if it not in ("counter_add_limited",)):
+    if any(len(it) > 16 for it in re.findall(r"[a-z][a-z0-9_]*", line.text) if it not in NATIVES):
         return "a name has more than 16 characters"
     return f"the form is: {FORMS[line.word]}; compare word by word with docs/SCHEDULES.md"
 

@@ -1,6 +1,10 @@
 """The language of schedules, as far as the tools have to know it: the form of each line, how its words are written, and what each
 command and native takes."""
 
+import os
+import re
+from collections import namedtuple
+
 FORMS = {
     "member": "member STAKE honest, or member STAKE faulty", "coin": "coin NAME OWNER BALANCE", "counter": "counter NAME VALUE", "cap": "cap NAME OWNER CURRENCY",
     "tx": "tx NAME SENDER EPOCH REF BUDGET, then inputs, then commands", "vote": "vote M T", "fvote": "fvote M T, and origin words", "cert": "cert T M, and more members",
@@ -8,23 +12,28 @@ FORMS = {
     "ack": "ack M T, or ack M T ! for a faulty member", "final": "final T M, and more members",
     "send": "send M T", "run": "run M WORKERS", "show": "show M", "stop": "stop M kept, or stop M lost", "restart": "restart M", "raw": "raw M vote HEX, or raw M hold HEX",
 }
-# What each native takes, in order, and what its codes mean. The first word says how: by value, by mutable reference or by reference.
-NATIVES = {
-    "coin_zero": ("the number of a currency", []),
-    "coin_mint": ("a cap (to be changed), the number of an amount", ["the supply would pass 64 bits"]),
-    "coin_burn": ("a cap (to be changed), a coin (used up)", ["the coin has another currency than the cap", "the supply is below the coin"]),
-    "coin_join_all": ("a vector of coins (used up)", ["the vector is empty", "the coins have two currencies", "the sum would pass 64 bits"]),
-    "counter_new": ("the number of a value", []),
-    "counter_add": ("a counter (to be changed), the number of an amount", ["the sum would pass 64 bits"]),
-    "counter_require": ("a counter (to be read), the number of the least value", ["the counter has less"]),
-    "vault_new": ("the number of a currency", []),
-    "vault_deposit": ("a vault (to be changed), a coin (used up)", ["the coin has another currency than the vault", "the sum would pass 64 bits"]),
-    "vault_withdraw": ("a vault (to be changed), its key (to be read), the number of an amount", ["the key is of another vault", "the vault has less"]),
-    "share": ("a counter or a vault that this block made (used up)", ["this block did not make it", "it is neither a counter nor a vault"]),
-    "freeze": ("an object (used up)", []),
-    "limit_new": ("the number of a value", []),
-    "counter_add_limited": ("a counter (to be changed), the number of an amount, a limit (to be read)", ["the sum would pass 64 bits", "the sum would pass the limit"]),
+Native = namedtuple("Native", "ways takes gives codes")
+# How a parameter is taken: the letter in the manual, and in words.
+WAYS = {
+    "Number": ("n", "the number of {}"), "ByValue": ("v", "{} (used up)"), "Coins": ("v", "{} (used up)"),
+    "ByMut": ("m", "{} (to be changed)"), "ByRef": ("r", "{} (to be read)"),
 }
+ROW = re.compile(r'(?m)^((?: *// .*\n)+) *\(\s*b"(\w+)",\s*&\[([^\]]*)\],?\s*\),$')
+
+
+def natives_in(text):
+    """The natives of the sources' table, by name: the ways and the words of what each takes, what it gives, and what its codes say."""
+    found = {}
+    for comment, name, modes in ROW.findall(text):
+        takes, gives, *codes = (it.strip() for it in " ".join(it.strip().removeprefix("//") for it in comment.splitlines()).split("|"))
+        found[name] = Native(re.findall(r"Mode::(\w+)", modes), takes.split(", "), gives, codes)
+    return found
+
+
+with open(f"{os.path.dirname(os.path.abspath(__file__))}/../../crates/chain_types/src/natives.rt", encoding="utf-8") as source:
+    TABLE = natives_in(source.read())
+# What each native takes, in order, and what its codes mean.
+NATIVES = {name: (", ".join(WAYS[way][1].format(it) for way, it in zip(native.ways, native.takes)), native.codes) for name, native in TABLE.items()}
 # And what the other commands take.
 SIGNATURES = {
     "split": "a coin (to be changed), the number of each amount",

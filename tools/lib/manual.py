@@ -7,6 +7,7 @@ import re
 import subprocess
 import sys
 
+import language
 from programs import TOP
 
 FENCE = re.compile(r"^```(\w*) ?(.*)$")
@@ -139,12 +140,12 @@ def without_form():
 
 
 def literals():
-    """The words of the language: those that the specifications of its crate spell out."""
+    """The words of the language: those that the specifications of its crate spell out, and the natives of their table."""
     found, crate = set(), home_of(WORDS)[0]
     for path in glob.glob(f"{TOP}/crates/{crate}/specs/**/*.antt", recursive=True):
         with open(path, encoding="utf-8") as it:
             found |= set(re.findall(r'codes "([^"]*)"', it.read()))
-    return found
+    return found | set(language.NATIVES)
 
 
 def causes():

@@ -13,7 +13,7 @@ SHAPES = {
     6: ("an argument names an input that is not there", "inputs count from i0, and the gas coin is none of them"),
     7: ("an argument names a result of a command that is not earlier", "commands count from r0"),
     8: ("a split has no amounts, a merge no sources or a transfer no values", "give it one"),
-    9: ("it calls a native that does not exist", "natives have the numbers 0 to 13"),
+    9: ("it calls a native that does not exist", f"natives have the numbers 0 to {len(language.NATIVES) - 1}"),
     10: ("its budget is below its cost", "the cost is 1000, and 100 more for each command"),
     11: ("it names version 0 or one that is too great", "versions go from 1 to 4611686018427387902"),
     12: ("a command has more than 512 arguments", "split it up"),

@@ -1,7 +1,7 @@
 -- What a call of a native takes and gives, and what it keeps.
 use Rattle.std.proofs.Common.{refl, ap, sym, subst, ◌∙◌}
 use Rattle.std.proofs.lemmas.Bool.{ltb-false, eqb-true}
-use Rattle.std.specs.Prelude.{◌≡◌, ◌≤◌, ◌+◌, ◌-◌, ℕ, zero, suc, Bool, true, false, not, ◌==◌, nat_lt, nat_le, List, [], ◌∷◌, ◌++◌, map, sum_by, length, Option, Some, None, Ok}
+use Rattle.std.specs.Prelude.{◌≡◌, ◌≤◌, ◌+◌, ◌-◌, ℕ, suc, Bool, true, false, not, ◌==◌, nat_lt, nat_le, List, [], ◌∷◌, ◌++◌, map, sum_by, length, Option, Some, None, Ok}
 use Rattle.std.specs.List.{list_any}
 use native.Mathlib.Omega.{arith}
 use Rattle.digest_core.specs.declared.Digest.{Digest}
@@ -22,10 +22,11 @@ use Rattle.protocol_spec.specs.declared.pieces.Gave.{Gave}
 use Rattle.protocol_spec.specs.declared.pieces.Gave.TheVariants as gave
 use Rattle.protocol_spec.proofs.ListLemmas.{each_as, append_nil}
 use Rattle.protocol_spec.proofs.Truth.{equal_numbers}
+use Rattle.protocol_spec.proofs.Gifts.{EachNumber, at-number}
 use Rattle.protocol_spec.specs.Chain.Words.{Each}
 use Rattle.protocol_spec.specs.Chain.Tests.{kind_eq}
 use Rattle.protocol_spec.specs.Chain.Keys.{money_of}
-use Rattle.protocol_spec.specs.Block.Natives.{parameters_of, native_gives, kind_of, currency_of, amount_of, holding, Site, new_item, amount_limit, item_given, items_given, item_at, number_at, gives, owned_by_all, abort_if, other_currency, joined, coin_mint, coin_burn, counter_add, counter_require, vault_new, vault_deposit, vault_withdraw, share, counter_add_limited, names_vault, may_be_shared}
+use Rattle.protocol_spec.specs.Block.Natives.{parameters, parameters_of, native_gives, kind_of, currency_of, amount_of, holding, Site, new_item, amount_limit, item_given, items_given, item_at, number_at, gives, owned_by_all, abort_if, other_currency, joined, coin_mint, coin_burn, counter_add, counter_require, vault_new, vault_deposit, vault_withdraw, share, counter_add_limited, names_vault, may_be_shared}
 use Rattle.protocol_spec.specs.Block.Block.{Place, Value, pure, object, vector, Slot, Block, place_eq, value_in, result_slots, with_results}
 use Rattle.protocol_spec.specs.Block.Commands.{Fault, Need, number, by_value, by_mut, by_ref, coins, paired, place_of, is_pure, is_right_kind, is_transfer, is_frozen_place, stays_in_place, given_as, given_all, spend_all, spend_taken, put_changed, put_back, placed_list, called_block, called, site}
 use Rattle.block_law.specs.Money.{supply_of, caps_of}
@@ -562,20 +563,54 @@ module _ (t : Transaction) (tx : Digest) (version c : ℕ) (first : List Slot) (
     caps = λ k. refl;
   }
 
-  pub call-step : (native : ℕ) (args : List Argument) (after : Block) → (length args == length (parameters_of native)) ≡ true → Goes native after args
+  abbrev IsCall : ℕ → Type 0
+  IsCall native = (args : List Argument) (after : Block) → (length args == length (parameters_of native)) ≡ true → Goes native after args
+
+  each-call : EachNumber IsCall parameters
   unfolding native_gives
-  call-step zero args after e = with-one 0 after args e (λ x read gave. new-step ((x, number) ∷ []) (content.Coin (number_at (given_all b ((x, number) ∷ [])) 0) 0) after refl (zero-coin (number_at (given_all b ((x, number) ∷ [])) 0)) gave)
-  call-step (suc zero) args after e = with-two 1 after args e (λ x y read gave. mint-step x y (number_at (given_all b ((x, by_mut kind.Cap) ∷ (y, number) ∷ [])) 1) after read gave)
-  call-step (suc (suc zero)) args after e = with-two 2 after args e (λ x y read gave. burn-step x y after read gave)
-  call-step (suc (suc (suc zero))) args after e = with-one 3 after args e (λ x read gave. join-step x after read gave)
-  call-step (suc (suc (suc (suc zero)))) args after e = with-one 4 after args e (λ x read gave. new-step ((x, number) ∷ []) (content.Counter (number_at (given_all b ((x, number) ∷ [])) 0)) after refl (record { money = λ k. refl; supply = λ k. refl; caps = λ k. refl }) gave)
-  call-step (suc (suc (suc (suc (suc zero))))) args after e = with-two 5 after args e (λ x y read gave. add-step x ((y, number) ∷ []) (number_at (given_all b ((x, by_mut kind.Counter) ∷ (y, number) ∷ [])) 1) after refl read.0 gave)
-  call-step (suc (suc (suc (suc (suc (suc zero)))))) args after e = with-two 6 after args e (λ x y read gave. require-step ((x, by_ref kind.Counter) ∷ (y, number) ∷ []) (item_at (given_all b ((x, by_ref kind.Counter) ∷ (y, number) ∷ [])) 0) (number_at (given_all b ((x, by_ref kind.Counter) ∷ (y, number) ∷ [])) 1) after refl gave)
-  call-step (suc (suc (suc (suc (suc (suc (suc zero))))))) args after e = with-one 7 after args e (λ x read gave. vault-step ((x, number) ∷ []) (number_at (given_all b ((x, number) ∷ [])) 0) after refl gave)
-  call-step (suc (suc (suc (suc (suc (suc (suc (suc zero)))))))) args after e = with-two 8 after args e (λ x y read gave. deposit-step x y after read gave)
-  call-step (suc (suc (suc (suc (suc (suc (suc (suc (suc zero))))))))) args after e = with-three 9 after args e (λ x y z read gave. withdraw-step x y z (item_at (given_all b ((x, by_mut kind.Vault) ∷ (y, by_ref kind.VaultKey) ∷ (z, number) ∷ [])) 1) (number_at (given_all b ((x, by_mut kind.Vault) ∷ (y, by_ref kind.VaultKey) ∷ (z, number) ∷ [])) 2) after read gave)
-  call-step (suc (suc (suc (suc (suc (suc (suc (suc (suc (suc zero)))))))))) args after e = with-one 10 after args e (λ x read gave. share-step x after read gave)
-  call-step (suc (suc (suc (suc (suc (suc (suc (suc (suc (suc (suc zero))))))))))) args after e = with-one 11 after args e (λ x read gave. freeze-step x after read gave)
-  call-step (suc (suc (suc (suc (suc (suc (suc (suc (suc (suc (suc (suc zero)))))))))))) args after e = with-one 12 after args e (λ x read gave. new-step ((x, number) ∷ []) (content.Limit (number_at (given_all b ((x, number) ∷ [])) 0)) after refl (record { money = λ k. refl; supply = λ k. refl; caps = λ k. refl }) gave)
-  call-step (suc (suc (suc (suc (suc (suc (suc (suc (suc (suc (suc (suc (suc zero))))))))))))) args after e = with-three 13 after args e (λ x y z read gave. limited-step x ((y, number) ∷ (z, by_ref kind.Limit) ∷ []) (number_at (given_all b ((x, by_mut kind.Counter) ∷ (y, number) ∷ (z, by_ref kind.Limit) ∷ [])) 1) (item_at (given_all b ((x, by_mut kind.Counter) ∷ (y, number) ∷ (z, by_ref kind.Limit) ∷ [])) 2) after refl read.0 gave)
-  call-step (suc (suc (suc (suc (suc (suc (suc (suc (suc (suc (suc (suc (suc (suc native)))))))))))))) args after e = λ read gave. absurd (cc)
+  each-call = (
+    λ args after e. with-one 0 after args e (λ x read gave. new-step ((x, number) ∷ []) (content.Coin (number_at (given_all b ((x, number) ∷ [])) 0) 0) after refl (zero-coin (number_at (given_all b ((x, number) ∷ [])) 0)) gave),
+    (
+      λ args after e. with-two 1 after args e (λ x y read gave. mint-step x y (number_at (given_all b ((x, by_mut kind.Cap) ∷ (y, number) ∷ [])) 1) after read gave),
+      (
+        λ args after e. with-two 2 after args e (λ x y read gave. burn-step x y after read gave),
+        (
+          λ args after e. with-one 3 after args e (λ x read gave. join-step x after read gave),
+          (
+            λ args after e. with-one 4 after args e (λ x read gave. new-step ((x, number) ∷ []) (content.Counter (number_at (given_all b ((x, number) ∷ [])) 0)) after refl (record { money = λ k. refl; supply = λ k. refl; caps = λ k. refl }) gave),
+            (
+              λ args after e. with-two 5 after args e (λ x y read gave. add-step x ((y, number) ∷ []) (number_at (given_all b ((x, by_mut kind.Counter) ∷ (y, number) ∷ [])) 1) after refl read.0 gave),
+              (
+                λ args after e. with-two 6 after args e (λ x y read gave. require-step ((x, by_ref kind.Counter) ∷ (y, number) ∷ []) (item_at (given_all b ((x, by_ref kind.Counter) ∷ (y, number) ∷ [])) 0) (number_at (given_all b ((x, by_ref kind.Counter) ∷ (y, number) ∷ [])) 1) after refl gave),
+                (
+                  λ args after e. with-one 7 after args e (λ x read gave. vault-step ((x, number) ∷ []) (number_at (given_all b ((x, number) ∷ [])) 0) after refl gave),
+                  (
+                    λ args after e. with-two 8 after args e (λ x y read gave. deposit-step x y after read gave),
+                    (
+                      λ args after e. with-three 9 after args e (λ x y z read gave. withdraw-step x y z (item_at (given_all b ((x, by_mut kind.Vault) ∷ (y, by_ref kind.VaultKey) ∷ (z, number) ∷ [])) 1) (number_at (given_all b ((x, by_mut kind.Vault) ∷ (y, by_ref kind.VaultKey) ∷ (z, number) ∷ [])) 2) after read gave),
+                      (
+                        λ args after e. with-one 10 after args e (λ x read gave. share-step x after read gave),
+                        (
+                          λ args after e. with-one 11 after args e (λ x read gave. freeze-step x after read gave),
+                          (
+                            λ args after e. with-one 12 after args e (λ x read gave. new-step ((x, number) ∷ []) (content.Limit (number_at (given_all b ((x, number) ∷ [])) 0)) after refl (record { money = λ k. refl; supply = λ k. refl; caps = λ k. refl }) gave),
+                            (
+                              λ args after e. with-three 13 after args e (λ x y z read gave. limited-step x ((y, number) ∷ (z, by_ref kind.Limit) ∷ []) (number_at (given_all b ((x, by_mut kind.Counter) ∷ (y, number) ∷ (z, by_ref kind.Limit) ∷ [])) 1) (item_at (given_all b ((x, by_mut kind.Counter) ∷ (y, number) ∷ (z, by_ref kind.Limit) ∷ [])) 2) after refl read.0 gave),
+                              λ n args after e read gave. absurd (cc),
+                            ),
+                          ),
+                        ),
+                      ),
+                    ),
+                  ),
+                ),
+              ),
+            ),
+          ),
+        ),
+      ),
+    ),
+  )
+
+  pub call-step : (native : ℕ) (args : List Argument) (after : Block) → (length args == length (parameters_of native)) ≡ true → Goes native after args
+  call-step native = at-number IsCall parameters each-call native

@@ -1,7 +1,7 @@
 -- After every command the gas coin and the withheld budget are an amount together, wherever the coin is.
 use Rattle.std.proofs.Common.{refl, ap, sym, subst, ◌∙◌, inl, inr}
 use Rattle.std.specs.Prelude.{◌≡◌, ◌≤◌, ◌<◌, ◌+◌, ◌-◌, ℕ, zero, suc, Bool, true, false, cond, not, ◌&&◌, nat_lt, nat_le, List, [], ◌∷◌, ◌++◌, map, sum, length, slice_get, option_map, Option, Some, None, Result, Ok, Err}
-use Rattle.std.specs.List.{list_any, enumerate_from}
+use Rattle.std.specs.List.{list_all, list_any, enumerate_from}
 use Rattle.std.proofs.lemmas.Bool.{leb-false}
 use native.Mathlib.Omega.{arith}
 use Rattle.digest_core.specs.declared.Digest.{Digest}
@@ -24,8 +24,8 @@ use Rattle.protocol_spec.specs.declared.pieces.Item.{Item}
 use Rattle.protocol_spec.specs.declared.pieces.Placed.{Placed}
 use Rattle.protocol_spec.specs.declared.pieces.Gave.{Gave}
 use Rattle.protocol_spec.specs.declared.pieces.Gave.TheVariants as gave
-use Rattle.protocol_spec.specs.declared.pieces.Mode.{Mode}
-use Rattle.protocol_spec.proofs.ListLemmas.{all_none, each_as, has_left, has_right, append_nil, has_map}
+use Rattle.chain_types.specs.declared.natives.Mode.{Mode}
+use Rattle.protocol_spec.proofs.ListLemmas.{all_none, and-first, and-second, each_as, has_left, has_right, append_nil, has_map}
 use Rattle.protocol_spec.proofs.Truth.{where_false, map_none}
 use Rattle.protocol_spec.specs.Chain.Words.{Each, Has, first_some, where_true}
 use Rattle.protocol_spec.specs.Chain.Tests.{kind_eq}
@@ -274,25 +274,25 @@ module _ (t : Transaction) (id : ObjectId) where
         (every-pays-grows b.placed (placed_list left) (put_changed needs changed (spend_taken needs b)).slots (put-pays cmd needs changed (spend_taken needs b) kept other read (taken-pays cmd [] needs b kept read each))))
 
     -- the first parameter of no native is a coin by reference
-    abbrev FirstMode : List Mode → Type 0
-    FirstMode [] = Unit {0}
-    FirstMode (m ∷ ms) = no_coin (need_of m) ≡ true
+    abbrev first_right : List Mode → Bool
+    first_right [] = true
+    first_right (m ∷ ms) = no_coin (need_of m)
 
-    mode-at : (table : List (List Mode)) (native : ℕ) → Each FirstMode table → FirstMode (parameters_at (slice_get table native))
-    mode-at [] native each = tt
-    mode-at (modes ∷ table) zero each = each.0
-    mode-at (modes ∷ table) (suc native) each = mode-at table native each.1
+    right-at : (table : List (List Mode)) (native : ℕ) → list_all first_right table ≡ true → first_right (parameters_at (slice_get table native)) ≡ true
+    right-at [] native all = refl
+    right-at (modes ∷ table) zero all = and-first (first_right modes) (list_all first_right table) all
+    right-at (modes ∷ table) (suc native) all = right-at table native (and-second (first_right modes) (list_all first_right table) all)
 
-    first-mode : (native : ℕ) → FirstMode (parameters_of native)
-    first-mode native = mode-at parameters native (refl, (refl, (refl, (refl, (refl, (refl, (refl, (refl, (refl, (refl, (refl, (refl, (refl, (refl, tt))))))))))))))
+    first-right : (native : ℕ) → first_right (parameters_of native) ≡ true
+    first-right native = right-at parameters native refl
 
-    first-need : (args : List Argument) (modes : List Mode) → FirstMode modes → FirstIsNoCoin (paired args modes)
-    first-need [] modes other = tt
-    first-need (a ∷ args) [] other = tt
-    first-need (a ∷ args) (m ∷ modes) other = other
+    first-need : (args : List Argument) (modes : List Mode) → first_right modes ≡ true → FirstIsNoCoin (paired args modes)
+    first-need [] modes right = tt
+    first-need (a ∷ args) [] right = tt
+    first-need (a ∷ args) (m ∷ modes) right = right
 
     performed-pays : (x : Command) (after : Block) → arguments_cause t b x [] (needs_of x) ≡ None → performed t tx version c b x ≡ Ok after → Every (Pays after.placed) after.slots
-    performed-pays (command.Call native args) after none e = called-pays (command.Call native args) (paired args (parameters_of native)) (native_gives native (site tx version b) (given_all b (paired args (parameters_of native)))) after refl (first-need args (parameters_of native) (first-mode native)) (all-read t b (command.Call native args) [] (needs_of (command.Call native args)) none) e
+    performed-pays (command.Call native args) after none e = called-pays (command.Call native args) (paired args (parameters_of native)) (native_gives native (site tx version b) (given_all b (paired args (parameters_of native)))) after refl (first-need args (parameters_of native) (first-right native)) (all-read t b (command.Call native args) [] (needs_of (command.Call native args)) none) e
     performed-pays (command.Transfer values to) after none e = subst (λ (d : Block). Every (Pays d.placed) d.slots) (ok-same Fault (transfer_block b values (address_in b to)) after e) (transfer-pays (command.Transfer values to) values to (address_in b to) (all-read t b (command.Transfer values to) [] (needs_of (command.Transfer values to)) none))
     performed-pays (command.Split coin amounts) after none e = split-pays (command.Split coin amounts) coin amounts after (all-read t b (command.Split coin amounts) [] (needs_of (command.Split coin amounts)) none) e
     performed-pays (command.Merge target sources) after none e = merge-pays (command.Merge target sources) target sources after refl (all-read t b (command.Merge target sources) [] (needs_of (command.Merge target sources)) none) e

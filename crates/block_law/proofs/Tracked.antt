@@ -1,7 +1,7 @@
 -- After every command an object that is marked as new has an id that the transaction drew, and only such objects were
 -- shared.
-use Rattle.std.proofs.Common.{refl, sym, subst, arith}
-use Rattle.std.specs.Prelude.{◌≡◌, ◌≤◌, ◌<◌, ◌+◌, ◌-◌, ℕ, zero, suc, Bool, true, false, cond, not, nat_lt, nat_le, List, [], ◌∷◌, ◌++◌, map, sum, sum_by, length, slice_get, option_map, Option, Some, None, Result, Ok, Err}
+use Rattle.std.proofs.Common.{refl, sym, subst, inl, inr, arith}
+use Rattle.std.specs.Prelude.{◌≡◌, ◌≤◌, ◌<◌, ◌+◌, ◌-◌, ℕ, suc, Bool, true, false, cond, nat_lt, List, [], ◌∷◌, ◌++◌, map, sum, length, option_map, Option, Some, None, Result, Ok, Err}
 use Rattle.std.specs.List.{list_any, enumerate_from, cons_option}
 use Rattle.digest_core.specs.declared.Digest.{Digest}
 use Rattle.chain_types.specs.declared.objects.ObjectId.{ObjectId}
@@ -10,8 +10,6 @@ use Rattle.chain_types.specs.declared.objects.Kind.{Kind}
 use Rattle.chain_types.specs.declared.objects.Object.{Object}
 use Rattle.chain_types.specs.declared.objects.Owner.{Owner}
 use Rattle.chain_types.specs.declared.objects.Owner.TheVariants as owner
-use Rattle.chain_types.specs.declared.objects.Content.{Content}
-use Rattle.chain_types.specs.declared.objects.Content.TheVariants as content
 use Rattle.chain_types.specs.declared.transactions.Argument.{Argument}
 use Rattle.chain_types.specs.declared.transactions.Input.{Input}
 use Rattle.chain_types.specs.declared.transactions.Input.TheVariants as inputs
@@ -20,13 +18,14 @@ use Rattle.chain_types.specs.declared.transactions.Command.TheVariants as comman
 use Rattle.chain_types.specs.declared.transactions.Transaction.{Transaction}
 use Rattle.protocol_spec.specs.declared.pieces.Item.{Item}
 use Rattle.protocol_spec.specs.declared.pieces.Given.{Given}
-use Rattle.protocol_spec.specs.declared.pieces.Given.TheVariants as given
 use Rattle.protocol_spec.specs.declared.pieces.Placed.{Placed}
 use Rattle.protocol_spec.specs.declared.pieces.Gave.{Gave}
 use Rattle.protocol_spec.specs.declared.pieces.Gave.TheVariants as gave
 use Rattle.protocol_spec.specs.Chain.Words.{Each, first_some}
 use Rattle.protocol_spec.specs.Chain.Keys.{version_of}
-use Rattle.protocol_spec.specs.Block.Natives.{currency_of, amount_of, holding, parameters_of, amount_limit, names_vault, may_be_shared, Site, new_item, no_item, number_at, item_given, item_at, items_given, items_at, gives, owned_by_all, abort_if, other_currency, joined, coin_mint, coin_burn, counter_add, counter_require, vault_new, vault_deposit, vault_withdraw, counter_add_limited, share, natives, gave_at, native_gives}
+use Rattle.protocol_spec.specs.Block.Natives.{currency_of, amount_of, holding, parameters_of, Site, no_item, native_gives}
+use Rattle.protocol_spec.proofs.ListLemmas.{each_as}
+use Rattle.protocol_spec.proofs.Gifts.{MayLeave, Handed, IsChange, IsResult, Changes, Leaves, Gift, AnyNumber, gift}
 use Rattle.protocol_spec.specs.Block.Block.{Place, Value, pure, object, vector, Slot, Block, value_in, result_slots}
 use Rattle.protocol_spec.specs.Block.Commands.{Fault, cause, Need, number, address, by_value, by_mut, by_ref, coins, paired, place_of, takes_value, piece_of, item_in, items_in, number_in, spend, spend_all, numbered_coin, split_block, split, sum_of, merge_cases, merge_block, merge, placed_at, address_in, transfer_block, vector_block, given_as, given_all, spend_taken, put_back, put_changed, placed_list, called_block, called, site, performed, taken_cause, command_step}
 use Rattle.protocol_spec.specs.Block.Execution.{Failure, input_slots, first_block, commands_from, commands_next, is_unused, checked_end, outcome}
@@ -124,9 +123,7 @@ module _ (tx : Digest) (version : ℕ) where
   Gives before (gave.Done results changed left made) = IsGiven before results changed left made
 
   abbrev MarkedGiven : ℕ → Given → Type 0
-  MarkedGiven made (given.Number n) = Unit {0}
-  MarkedGiven made (given.Item i) = Marked made i
-  MarkedGiven made (given.Items is) = Each (Marked made) is
+  MarkedGiven made = Handed (Marked made) AnyNumber
 
   no-item : (made : ℕ) → Marked made no_item
   no-item made = λ e. absurd (cc)
@@ -135,125 +132,39 @@ module _ (tx : Digest) (version : ℕ) where
     abbrev here : Site
     here = record { tx = tx; version = version; made = made }
 
-    unless-stops : (stops : Bool) (code : ℕ) (rest : Gave) → (stops ≡ false → Gives made rest) → Gives made (abort_if stops code rest)
-    unless-stops true code rest fact = tt
-    unless-stops false code rest fact = fact refl
+    -- what was handed over or drawn, by what was drawn at the end
+    module _ (after : ℕ) (rises : made ≤ after) where
+      change : (i : Item) → IsChange (Marked made) AnyNumber i → Marked after i
+      change i c = subst (Marked after) (sym c.same) (marked-more made after rises c.was c.had)
 
-    new-marked : (k : ℕ) (c : Content) (after : ℕ) → made + k < after → Marked after (new_item here k c)
-    new-marked k c after less = λ e. (made + k, less, refl)
+      result : (native : ℕ) (args : List Given) (i : Item) → IsResult (Marked made) AnyNumber native here args after i → Marked after i
+      result native args i (inl n) = λ e. (n.number, n.low, sym n.same)
+      result native args i (inr c) = change i c
 
-    gives-given : (cs : List Content) (changed : Option Item) → IsChanged made changed → Gives made (gives here cs changed)
-    gives-given [] changed is = record { rises = omega arith; results_are = tt; changed_is = is; left_is = tt }
-    gives-given (c ∷ cs) changed is = record { rises = omega arith; results_are = (new-marked 0 c (made + 1) (omega arith), tt); changed_is = later changed is; left_is = tt }
+      changed-as : (o : Option Item) → Changes (Marked made) AnyNumber o → IsChanged after o
+      changed-as None c = tt
+      changed-as (Some i) c = change i c
+
+      left-by : (i : Item) (who : Owner) → Marked made i → MayLeave here i who → Left after i.id who
+      left-by i (owner.Address a) m may = tt
+      left-by i (owner.Shared initial) m may = (may.0, drawn-more made after rises i.id (m may.1))
+      left-by i owner.Immutable m may = tt
+
+      left-as : (o : Option Placed) → Leaves (Marked made) AnyNumber here o → Goes after o
+      left-as None l = tt
+      left-as (Some p) l = left-by p.item p.owner l.0 l.1
+
+    native-given : (args : List Given) → Each (MarkedGiven made) args → (native : ℕ) → Gives made (native_gives native here args)
+    native-given args marked native = go (native_gives native here args) (gift (Marked made) AnyNumber (no-item made) tt here args marked native)
       where
-        later : (changed : Option Item) → IsChanged made changed → IsChanged (made + 1) changed
-        later None is = tt
-        later (Some i) is = marked-more made (made + 1) (omega arith) i is
-
-    all-given : (i : Item) (who : Owner) → Left made i.id who → Gives made (owned_by_all here i who)
-    all-given i who l = record { rises = omega arith; results_are = tt; changed_is = tt; left_is = l }
-
-    joined-given : (is : List Item) → Each (Marked made) is → Gives made (joined here is)
-    joined-given [] each = tt
-    joined-given (first ∷ others) each =
-        unless-stops (list_any (other_currency first) others) 2
-        (abort_if (nat_le amount_limit (amount_of first.content + sum_by (λ (i : Item). amount_of i.content) others)) 3 (gave.Done (holding (amount_of first.content + sum_by (λ (i : Item). amount_of i.content) others) first ∷ []) None None made))
-        (λ _. unless-stops (nat_le amount_limit (amount_of first.content + sum_by (λ (i : Item). amount_of i.content) others)) 3 (gave.Done (holding (amount_of first.content + sum_by (λ (i : Item). amount_of i.content) others) first ∷ []) None None made)
-        (λ _. record { rises = omega arith; results_are = (each.0, tt); changed_is = tt; left_is = tt }))
-
-    share-given : (i : Item) → Marked made i → Gives made (share here i)
-    share-given i m =
-        unless-stops (not i.fresh) 1 (abort_if (not (may_be_shared i.content)) 2 (owned_by_all here i (owner.Shared version)))
-        (λ e. unless-stops (not (may_be_shared i.content)) 2 (owned_by_all here i (owner.Shared version)) (λ _. all-given i (owner.Shared version) (refl, m (is-true i.fresh e))))
-      where
-        is-true : (b : Bool) → not b ≡ false → b ≡ true
-        is-true true e = refl
-        is-true false e = absurd (cc)
-
-    module _ (args : List Given) (marked : Each (MarkedGiven made) args) where
-      each-place : (xs : List Given) → Each (MarkedGiven made) xs → (n : ℕ) → Marked made (item_given (slice_get xs n))
-      each-place [] each n = no-item made
-      each-place (given.Number k ∷ xs) each zero = no-item made
-      each-place (given.Item i ∷ xs) each zero = each.0
-      each-place (given.Items is ∷ xs) each zero = no-item made
-      each-place (x ∷ xs) each (suc n) = each-place xs each.1 n
-
-      item-marked : (n : ℕ) → Marked made (item_at args n)
-      item-marked n = each-place args marked n
-
-      each-list : (xs : List Given) → Each (MarkedGiven made) xs → (n : ℕ) → Each (Marked made) (items_given (slice_get xs n))
-      each-list [] each n = tt
-      each-list (given.Number k ∷ xs) each zero = tt
-      each-list (given.Item i ∷ xs) each zero = tt
-      each-list (given.Items is ∷ xs) each zero = each.0
-      each-list (x ∷ xs) each (suc n) = each-list xs each.1 n
-
-      items-marked : (n : ℕ) → Each (Marked made) (items_at args n)
-      items-marked n = each-list args marked n
-
-      abbrev one : Item
-      one = item_at args 0
-
-      -- a change of the first argument, after one test or two
-      changes : (cs : List Content) (n : ℕ) → Gives made (gives here cs (Some (holding n one)))
-      changes cs n = gives-given cs (Some (holding n one)) (item-marked 0)
-
-      behind-one : (stops : Bool) (code : ℕ) (cs : List Content) (n : ℕ) → Gives made (abort_if stops code (gives here cs (Some (holding n one))))
-      behind-one stops code cs n = unless-stops stops code (gives here cs (Some (holding n one))) (λ _. changes cs n)
-
-      behind-two : (first second : Bool) (a b : ℕ) (cs : List Content) (n : ℕ) → Gives made (abort_if first a (abort_if second b (gives here cs (Some (holding n one)))))
-      behind-two first second a b cs n = unless-stops first a (abort_if second b (gives here cs (Some (holding n one)))) (λ _. behind-one second b cs n)
-
-      minted : Gives made (coin_mint here one (number_at args 1))
-      minted = behind-one (nat_le amount_limit (amount_of one.content + number_at args 1)) 1 (content.Coin (currency_of one.content) (number_at args 1) ∷ []) (amount_of one.content + number_at args 1)
-
-      burnt : Gives made (coin_burn here one (item_at args 1))
-      burnt = behind-two (other_currency one (item_at args 1)) (nat_lt (amount_of one.content) (amount_of (item_at args 1).content)) 1 2 [] (amount_of one.content - amount_of (item_at args 1).content)
-
-      added : Gives made (counter_add here one (number_at args 1))
-      added = behind-one (nat_le amount_limit (amount_of one.content + number_at args 1)) 1 [] (amount_of one.content + number_at args 1)
-
-      required : Gives made (counter_require here one (number_at args 1))
-      required = unless-stops (nat_lt (amount_of one.content) (number_at args 1)) 1 (gives here [] None) (λ _. gives-given [] None tt)
-
-      opened : Gives made (vault_new here (number_at args 0))
-      opened = record {
-        rises = omega arith;
-        results_are = (
-          new-marked 0 (content.Vault (number_at args 0) 0) (made + 2) (omega arith),
-          (new-marked 1 (content.VaultKey (drawn_id tx made)) (made + 2) (omega arith), tt),
-        );
-        changed_is = tt;
-        left_is = tt;
-      }
-
-      deposited : Gives made (vault_deposit here one (item_at args 1))
-      deposited = behind-two (other_currency one (item_at args 1)) (nat_le amount_limit (amount_of one.content + amount_of (item_at args 1).content)) 1 2 [] (amount_of one.content + amount_of (item_at args 1).content)
-
-      withdrawn : Gives made (vault_withdraw here one (item_at args 1) (number_at args 2))
-      withdrawn = behind-two (not (names_vault one.id (item_at args 1).content)) (nat_lt (amount_of one.content) (number_at args 2)) 1 2 (content.Coin (currency_of one.content) (number_at args 2) ∷ []) (amount_of one.content - number_at args 2)
-
-      limited : Gives made (counter_add_limited here one (number_at args 1) (item_at args 2))
-      limited = behind-two (nat_le amount_limit (amount_of one.content + number_at args 1)) (nat_lt (amount_of (item_at args 2).content) (amount_of one.content + number_at args 1)) 1 2 [] (amount_of one.content + number_at args 1)
-
-      new-one : (c : Content) → Gives made (gives here (c ∷ []) None)
-      new-one c = gives-given (c ∷ []) None tt
-
-      last-natives : Each (Gives made) (share here one ∷ owned_by_all here one owner.Immutable ∷ gives here (content.Limit (number_at args 0) ∷ []) None ∷ counter_add_limited here one (number_at args 1) (item_at args 2) ∷ [])
-      last-natives = (share-given one (item-marked 0), (all-given one owner.Immutable tt, (new-one (content.Limit (number_at args 0)), (limited, tt))))
-
-      all-natives : Each (Gives made) (natives here args)
-      all-natives =
-          (new-one (content.Coin (number_at args 0) 0), (minted, (burnt, (joined-given (items_at args 0) (items-marked 0), (new-one (content.Counter (number_at args 0)), (added, (required, (opened, (deposited, (withdrawn, last-natives))))))))))
-
-      at-native : (gs : List Gave) → Each (Gives made) gs → (n : ℕ) → Gives made (gave_at (slice_get gs n))
-      at-native [] each n = tt
-      at-native (g ∷ gs) each zero = each.0
-      at-native (g ∷ gs) each (suc n) = at-native gs each.1 n
-
-      native-given : (native : ℕ) → Gives made (native_gives native here args)
-      unfolding native_gives
-      native-given native = at-native (natives here args) all-natives native
+        go : (g : Gave) → Gift (Marked made) AnyNumber here args native g → Gives made g
+        go (gave.Abort code) h = tt
+        go (gave.Done results changed left after) h = record {
+          rises = h.rises;
+          results_are = each_as (IsResult (Marked made) AnyNumber native here args after) (Marked after) results (result after h.rises native args) h.results_are;
+          changed_is = changed-as after h.rises changed h.changed_is;
+          left_is = left-as after h.rises left h.left_is;
+        }
 
   -- ---- results
 

@@ -9,6 +9,7 @@ mod encoded;
 mod hashed;
 mod keys;
 mod long;
+mod natives;
 mod objects;
 mod objects_wire;
 mod refusals;
@@ -20,6 +21,7 @@ pub use encoded::{decode_signed_with, encoded_digest};
 pub use hashed::HashedObject;
 pub use keys::{lamport, object_count, owned_keys};
 pub use long::has_long_list;
+pub use natives::{LAST_NATIVE, Mode, NATIVES, Native};
 pub use objects::{
     Address, Content, Kind, Object, ObjectId, ObjectKey, ObjectRef, Owner, Producer,
 };

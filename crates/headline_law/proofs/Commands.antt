@@ -20,8 +20,11 @@ use Rattle.protocol_spec.specs.declared.pieces.Item.{Item}
 use Rattle.protocol_spec.specs.declared.pieces.Placed.{Placed}
 use Rattle.protocol_spec.specs.declared.pieces.Gave.{Gave}
 use Rattle.protocol_spec.specs.declared.pieces.Gave.TheVariants as gave
+use Rattle.chain_types.specs.declared.natives.Mode.{Mode}
+use Rattle.chain_types.specs.declared.natives.Mode.TheVariants as mode
 use Rattle.protocol_spec.proofs.ListLemmas.{each_join, all_none}
 use Rattle.protocol_spec.proofs.Truth.{where_false, map_none}
+use Rattle.protocol_spec.proofs.Gifts.{takes_vault}
 use Rattle.protocol_spec.specs.Chain.Words.{Each, first_some, where_true}
 use Rattle.protocol_spec.specs.Chain.Tests.{kind_eq}
 use Rattle.protocol_spec.specs.Chain.Keys.{version_of}
@@ -197,13 +200,27 @@ module _ (all : Bool) where
     all-given [] = tt
     all-given (x ∷ needs) = (given-low x.1 (place_of x.0) (value_in (place_of x.0) b.slots) refl, all-given needs)
 
-    -- the first argument of a withdrawal is a vault
-    vault-first : (cmd : Command) (args : List Argument) → AllRead t b cmd [] (paired args (parameters_of 9)) → amount_of (item_at (given_all b (paired args (parameters_of 9))) 0).content < amount_limit
-    vault-first cmd [] read = omega arith
-    vault-first cmd (a ∷ args) read =
-        let o = is-changed kind.Vault read.0.value read.0.fitting in
+    same-vault : (k : Kind) → kind_eq k kind.Vault ≡ true → k ≡ kind.Vault
+    same-vault kind.Coin e = absurd (cc)
+    same-vault kind.Cap e = absurd (cc)
+    same-vault kind.Counter e = absurd (cc)
+    same-vault kind.Vault e = refl
+    same-vault kind.VaultKey e = absurd (cc)
+    same-vault kind.Limit e = absurd (cc)
+
+    -- a first argument that is to be a vault is one
+    vault-first : (cmd : Command) (args : List Argument) (modes : List Mode) → takes_vault modes ≡ true → AllRead t b cmd [] (paired args modes) → amount_of (item_at (given_all b (paired args modes)) 0).content < amount_limit
+    vault-first cmd [] modes takes read = omega arith
+    vault-first cmd (a ∷ args) [] takes read = absurd (cc)
+    vault-first cmd (a ∷ args) (mode.Number ∷ modes) takes read = absurd (cc)
+    vault-first cmd (a ∷ args) (mode.ByValue k ∷ modes) takes read = absurd (cc)
+    vault-first cmd (a ∷ args) (mode.ByRef k ∷ modes) takes read = absurd (cc)
+    vault-first cmd (a ∷ args) (mode.Coins ∷ modes) takes read = absurd (cc)
+    vault-first cmd (a ∷ args) (mode.ByMut k ∷ modes) takes read =
+        let o = is-changed k read.0.value read.0.fitting in
         let there : value_in (place_of a) b.slots ≡ Some (object o.0) = read.0.there ∙ ap Some o.1.0 in
-        rw there (vault-amount all o.0.content o.1.1 (value-every Lying (place_of a) (object o.0) b.slots it.slots there))
+        let is : kind_eq (kind_of o.0.content) kind.Vault ≡ true = subst (λ (v : Kind). kind_eq (kind_of o.0.content) v ≡ true) (same-vault k takes) o.1.1 in
+        rw there (vault-amount all o.0.content is (value-every Lying (place_of a) (object o.0) b.slots it.slots there))
 
     taken-lie : (needs : List (Argument × Need)) (d : Block) → Every Lying d.slots → Every Lying (spend_taken needs d).slots
     taken-lie [] d lying = lying
@@ -237,10 +254,9 @@ module _ (all : Bool) where
     performed-low (command.MakeVec k values) after none e = subst IsLow (ok-same Fault (vector_block c b k values) after e) (vector-low k values)
     performed-low (command.Call native args) after none e =
         called-low (paired args (parameters_of native)) (native_gives native (site tx version b) (given_all b (paired args (parameters_of native)))) after
-        (native-low all (site tx version b) (given_all b (paired args (parameters_of native))) (all-given (paired args (parameters_of native))) native
-        (λ nine. subst (λ (n : ℕ). amount_of (item_at (given_all b (paired args (parameters_of n))) 0).content < amount_limit) (sym nine)
-        (vault-first (command.Call native args) args (subst (λ (n : ℕ). AllRead t b (command.Call native args) [] (paired args (parameters_of n))) nine
-        (all-read t b (command.Call native args) [] (needs_of (command.Call native args)) none))))) e
+        (native-low all native (given_all b (paired args (parameters_of native)))
+        (λ takes. vault-first (command.Call native args) args (parameters_of native) takes (all-read t b (command.Call native args) [] (needs_of (command.Call native args)) none))
+        (site tx version b) (all-given (paired args (parameters_of native)))) e
 
     step-low : (x : Command) (after : Block) → command_step t tx version c b x ≡ Ok after → IsLow after
     unfolding command_step

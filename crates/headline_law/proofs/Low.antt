@@ -51,6 +51,16 @@ less-low false n (content.Vault currency balance) low = omega (arith, low)
 less-low false n (content.VaultKey vault) low = omega arith
 less-low false n (content.Limit value) low = omega arith
 
+-- what holds an amount
+pub small-low : (all : Bool) (k : Content) → amount_of k < amount_limit → Low all k
+small-low true k less = less
+small-low false (content.Coin currency balance) less = less
+small-low false (content.Cap currency supply) less = less
+small-low false (content.Counter value) less = omega arith
+small-low false (content.Vault currency balance) less = less
+small-low false (content.VaultKey vault) less = omega arith
+small-low false (content.Limit value) less = omega arith
+
 -- the amount of a coin or a vault is its money
 pub coin-amount : (all : Bool) (k : Content) → kind_eq (kind_of k) kind.Coin ≡ true → Low all k → amount_of k < amount_limit
 coin-amount true k is low = low

@@ -2,8 +2,8 @@
 use Rattle.std.specs.Prelude.{ℕ, Bool, true, false, ◌&&◌, List, [], ◌∷◌, slice_get, Option, Some, None}
 use Rattle.protocol_spec.specs.declared.pieces.Given.{Given}
 use Rattle.protocol_spec.specs.declared.pieces.Given.TheVariants as given
-use Rattle.protocol_spec.specs.declared.pieces.Mode.{Mode}
-use Rattle.protocol_spec.specs.declared.pieces.Mode.TheVariants as mode
+use Rattle.chain_types.specs.declared.natives.Mode.{Mode}
+use Rattle.chain_types.specs.declared.natives.Mode.TheVariants as mode
 
 abbrev pub is_number : Given → Bool
 is_number (given.Number n) = true

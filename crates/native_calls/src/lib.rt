@@ -1,5 +1,6 @@
-//! The natives: 14 functions that stand in for Move code, which the commands of a block call.
+//! The natives: functions that stand in for Move code, which the commands of a block call.
 //!
+//! Their names and parameters are the table `NATIVES` of `chain_types`.
 //! [`mode`] says how a native takes each of its parameters, and [`call`] what it gives of its
 //! arguments. Each is one equation by the definitions of the natives. A call takes memory for the
 //! objects that it gives, and may be refused it; nothing else can go wrong with it. What a content
@@ -13,7 +14,6 @@ mod counters;
 mod dispatch;
 mod gives;
 mod modes;
-mod native;
 mod owners;
 mod place;
 mod vaults;

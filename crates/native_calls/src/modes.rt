@@ -1,11 +1,19 @@
 //! How natives take their parameters.
 
-ghost use Rattle.std.specs.Prelude.{◌≡◌, ◌≤◌, length, slice_get};
-ghost use Rattle.protocol_spec.specs.Block.Natives.{mode_of, parameters_of};
+ghost use Rattle.std.specs.Prelude.{◌≡◌, ◌≤◌, length, map, slice_get};
+ghost use Rattle.protocol_spec.specs.Block.Natives.{mode_of, parameters_at, parameters_of};
 
-use crate::native::{Native, native_of};
-use chain_types::Kind;
-use protocol_spec::Mode;
+use chain_types::{LAST_NATIVE, Mode, NATIVES, Native};
+
+/// The parameters of the native of this number in a table.
+fn parameters_at(natives: &[Native], number: u8) -> &[Mode]
+    ensures { result.now ≡ parameters_at (slice_get (map (λ n. n.1.now) natives.now) number) }
+{
+    match natives.get(number as usize) {
+        Some(native) => native.1,
+        None => &[],
+    }
+}
 
 /// The mode at a place.
 fn at(modes: &[Mode], place: u16) -> Option<Mode>
@@ -14,64 +22,19 @@ fn at(modes: &[Mode], place: u16) -> Option<Mode>
     modes.get(place as usize).copied()
 }
 
-/// How the native, of number 13 at most, takes the parameter at this place, counted from 0; none if it has no such parameter.
+/// How a native, of number `LAST_NATIVE` at most, takes the parameter at this place, counted from 0; none if it has no such parameter.
 #[tactic(auto, unfolding(protocol_spec::specs::Block::Natives::mode_of))]
 pub fn mode(native: u8, place: u16) -> Option<Mode>
-    requires { native ≤ 13 }
+    requires { native ≤ LAST_NATIVE }
     ensures { result ≡ mode_of native place }
 {
-    let number = Mode::Number;
-    match native_of(native) {
-        Native::CoinZero => at(&[number], place),
-        Native::CoinMint => at(&[Mode::ByMut(Kind::Cap), number], place),
-        Native::CoinBurn => at(
-            &[Mode::ByMut(Kind::Cap), Mode::ByValue(Some(Kind::Coin))],
-            place,
-        ),
-        Native::CoinJoinAll => at(&[Mode::Coins], place),
-        Native::CounterNew => at(&[number], place),
-        Native::CounterAdd => at(&[Mode::ByMut(Kind::Counter), number], place),
-        Native::CounterRequire => at(&[Mode::ByRef(Kind::Counter), number], place),
-        Native::VaultNew => at(&[number], place),
-        Native::VaultDeposit => at(
-            &[Mode::ByMut(Kind::Vault), Mode::ByValue(Some(Kind::Coin))],
-            place,
-        ),
-        Native::VaultWithdraw => at(
-            &[
-                Mode::ByMut(Kind::Vault),
-                Mode::ByRef(Kind::VaultKey),
-                number,
-            ],
-            place,
-        ),
-        Native::Share | Native::Freeze => at(&[Mode::ByValue(None)], place),
-        Native::LimitNew => at(&[number], place),
-        Native::CounterAddLimited => at(
-            &[Mode::ByMut(Kind::Counter), number, Mode::ByRef(Kind::Limit)],
-            place,
-        ),
-    }
+    at(parameters_at(NATIVES.as_slice(), native), place)
 }
 
-/// How many parameters the native, of number 13 at most, has.
+/// How many parameters a native, of number `LAST_NATIVE` at most, has.
 pub fn parameter_count(native: u8) -> u64
-    requires { native ≤ 13 }
+    requires { native ≤ LAST_NATIVE }
     ensures { result ≡ length (parameters_of native) }
 {
-    match native_of(native) {
-        Native::CoinZero
-        | Native::CoinJoinAll
-        | Native::CounterNew
-        | Native::VaultNew
-        | Native::Share
-        | Native::Freeze
-        | Native::LimitNew => 1,
-        Native::CoinMint
-        | Native::CoinBurn
-        | Native::CounterAdd
-        | Native::CounterRequire
-        | Native::VaultDeposit => 2,
-        Native::VaultWithdraw | Native::CounterAddLimited => 3,
-    }
+    parameters_at(NATIVES.as_slice(), native).len() as u64
 }

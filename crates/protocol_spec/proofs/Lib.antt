@@ -3,3 +3,4 @@ pub mod Truth
 pub mod Equality
 pub mod Executions
 pub mod Checked
+pub mod Gifts

@@ -15,7 +15,8 @@ mod sentences;
 mod shared;
 
 pub use answers::{Assigned, Held, Ignore, Left, Ran, Seen, SeenWhat, Voted};
-pub use pieces::{Executed, Gave, Given, Item, Mode, Placed};
+pub use chain_types::Mode;
+pub use pieces::{Executed, Gave, Given, Item, Placed};
 pub use refusals::{
     AckRefusal, CloseRefusal, EndRefusal, HoldRefusal, RunRefusal, SeeRefusal, StartRefusal,
     TurnRefusal, VoteRefusal,

@@ -1,6 +1,6 @@
 //! The pieces of a block.
 
-use chain_types::{Content, Kind, Object, ObjectId, Owner};
+use chain_types::{Content, Object, ObjectId, Owner};
 use effects_core::Effects;
 use wire_bcs::Seq;
 
@@ -40,21 +40,6 @@ pub enum Gave {
     },
     /// The code, 1 to 3.
     Abort(u8),
-}
-
-/// How a native takes a parameter.
-#[derive(Clone, Copy, Debug, PartialEq, Eq)]
-pub enum Mode {
-    /// Pure bytes of a u64.
-    Number,
-    /// The object itself, of this kind or of any.
-    ByValue(Option<Kind>),
-    /// An object that is changed in place.
-    ByMut(Kind),
-    /// An object that is only read.
-    ByRef(Kind),
-    /// A vector of coins, by value.
-    Coins,
 }
 
 /// What the execution of a transaction leaves: its effects, and the objects that they list.

@@ -4,8 +4,8 @@ use Rattle.std.specs.Prelude.{slice_get}
 use Rattle.std.specs.List.{cons_option}
 use Rattle.chain_types.specs.declared.transactions.Argument.{Argument}
 use Rattle.protocol_spec.specs.declared.pieces.Item.{Item}
-use Rattle.protocol_spec.specs.declared.pieces.Mode.{Mode}
-use Rattle.protocol_spec.specs.declared.pieces.Mode.TheVariants as modes
+use Rattle.chain_types.specs.declared.natives.Mode.{Mode}
+use Rattle.chain_types.specs.declared.natives.Mode.TheVariants as modes
 use Rattle.protocol_spec.specs.Block.Natives.{parameters_of, mode_of}
 use Rattle.protocol_spec.specs.Block.Block as block
 use Rattle.protocol_spec.specs.Block.Commands as commands

@@ -7,8 +7,8 @@ use Rattle.chain_types.specs.declared.transactions.Command.TheVariants as comman
 use Rattle.chain_types.specs.declared.objects.Kind.{Kind}
 use Rattle.chain_types.specs.declared.transactions.Argument.{Argument}
 use Rattle.protocol_spec.specs.declared.pieces.Given.{Given}
-use Rattle.protocol_spec.specs.declared.pieces.Mode.{Mode}
-use Rattle.protocol_spec.specs.declared.pieces.Mode.TheVariants as modes
+use Rattle.chain_types.specs.declared.natives.Mode.{Mode}
+use Rattle.chain_types.specs.declared.natives.Mode.TheVariants as modes
 use Rattle.protocol_spec.proofs.Truth.{equal_numbers}
 use Rattle.protocol_spec.specs.Block.Natives.{parameters_of}
 use Rattle.protocol_spec.specs.Block.Block as block

@@ -2,8 +2,8 @@
 use Rattle.std.specs.Prelude.{ℕ, ◌+◌, Bool, true, false, List, [], ◌∷◌, ◌++◌, Option, Some, None}
 use Rattle.chain_types.specs.declared.objects.Kind.{Kind}
 use Rattle.chain_types.specs.declared.transactions.Argument.{Argument}
-use Rattle.protocol_spec.specs.declared.pieces.Mode.{Mode}
-use Rattle.protocol_spec.specs.declared.pieces.Mode.TheVariants as modes
+use Rattle.chain_types.specs.declared.natives.Mode.{Mode}
+use Rattle.chain_types.specs.declared.natives.Mode.TheVariants as modes
 use Rattle.protocol_spec.specs.Chain.Tests.{kind_eq}
 use Rattle.ptb_run.specs.declared.needs.Need.{Need}
 use Rattle.ptb_run.specs.declared.needs.Need.TheVariants as needs

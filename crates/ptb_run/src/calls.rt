@@ -18,6 +18,7 @@ use crate::commands::Site;
 use crate::halt::{Fault, Halt};
 use crate::needs::{Need, Wanted, takes_value};
 use crate::value::Value;
+use chain_types::LAST_NATIVE;
 use native_calls::call;
 use protocol_spec::{Gave, Given, Item, Placed};
 use std::alloc::Global;
@@ -144,7 +145,7 @@ pub(crate) fn call_native(
     native: u8,
     wanted: &[Wanted],
 ) -> Result<(), Halt>
-    requires known { native ≤ 13 }
+    requires known { native ≤ LAST_NATIVE }
     requires room { (block_of block.old).made < 2147483136 }
     requires taken { list_all (is_taken (block_of block.old)) (map wanted_of wanted.now) ≡ true }
     requires forms { have_forms (parameters_of native) (commands.given_all (block_of block.old) (map wanted_of wanted.now)) ≡ true }

@@ -9,7 +9,7 @@ ghost use Rattle.protocol_spec.specs.Chain.Tests.{kind_eq};
 ghost use Rattle.ptb_run.specs.Needs.{all_after, is_item_right, listed, need_meant, need_now, pairs_after, wanted_of};
 
 use crate::value::Value;
-use chain_types::{Argument, Command, Kind};
+use chain_types::{Argument, Command, Kind, LAST_NATIVE};
 use native_calls::contents::kind_of;
 use native_calls::mode;
 use protocol_spec::Mode;
@@ -161,7 +161,7 @@ fn add_all(wanted: &mut Seq<Wanted>, need: Need, args: &[Argument]) -> Result<()
 
 /// The arguments of a native with its modes, in a list.
 fn pair_each(alloc: Global, native: u8, args: &[Argument]) -> Result<Seq<Wanted>, OutOfMemory>
-    requires known { native ≤ 13 }
+    requires known { native ≤ LAST_NATIVE }
     requires few { length args.now ≤ 512 }
     ensures { IfOk result (λ wanted. wanted ≡ pairs_after [] native 0 args.now) }
 {
@@ -184,7 +184,7 @@ fn pair_each(alloc: Global, native: u8, args: &[Argument]) -> Result<Seq<Wanted>
 
 /// The arguments of a native with its modes, whatever their number.
 fn pair_many(alloc: Global, native: u8, args: &[Argument]) -> Result<Arguments, OutOfMemory>
-    requires known { native ≤ 13 }
+    requires known { native ≤ LAST_NATIVE }
     requires few { length args.now ≤ 512 }
     ensures { IfOk result (λ needs. listed needs ≡ pairs_after [] native 0 args.now) }
 {
@@ -203,7 +203,7 @@ fn in_mode(argument: Argument, mode: Mode) -> Wanted
 
 /// The arguments of a native with its modes.
 fn paired(alloc: Global, native: u8, args: &[Argument]) -> Result<Arguments, OutOfMemory>
-    requires known { native ≤ 13 }
+    requires known { native ≤ LAST_NATIVE }
     requires few { length args.now ≤ 512 }
     ensures { IfOk result (λ needs. listed needs ≡ pairs_after [] native 0 args.now) }
 {

@@ -1,7 +1,8 @@
 -- The command words: their bytes, their form, and what each is read as.
-use Rattle.std.proofs.Common.{◌≡◌, ◌==◌, ℕ, zero, suc, ◌<◌, ◌≤◌, ◌^◌, Bool, true, false, ◌||◌, List, [], ◌∷◌, ◌++◌, map, length, Some, codes, decimal, option_map, is_some, refl, ap, ◌∙◌, arith}
-use Rattle.std.proofs.lemmas.Bool.{and_from, or_left}
+use Rattle.std.proofs.Common.{◌≡◌, ◌==◌, ℕ, zero, suc, ◌+◌, ◌<◌, ◌≤◌, ◌^◌, Bool, true, false, not, ◌&&◌, ◌||◌, List, [], ◌∷◌, ◌++◌, map, length, Option, Some, None, codes, decimal, option_map, is_some, refl, ap, sym, ◌∙◌, add-zero, zero-add, arith}
+use Rattle.std.proofs.lemmas.Bool.{and_from, and_parts, or_left, eqb-true}
 use Rattle.std.specs.List.{list_all, AllByRecursion, join_with_byte}
+use Rattle.std.specs.Str.{bytes_eq}
 use Rattle.schedule_text.specs.declared.words.ArgWord.{ArgWord}
 use Rattle.schedule_text.specs.declared.words.ArgWord.TheVariants as arg
 use Rattle.schedule_text.specs.declared.words.CommandWord.{CommandWord}
@@ -136,58 +137,74 @@ kind_back (suc (suc (suc (suc zero)))) low = refl
 kind_back (suc (suc (suc (suc (suc zero))))) low = refl
 kind_back (suc (suc (suc (suc (suc (suc k)))))) low = absurd (omega (arith, low))
 
-native_named : (k : ℕ) → k < 14 → Passes is_name_byte (name_at native_names k)
-native_named zero low = refl
-native_named (suc zero) low = refl
-native_named (suc (suc zero)) low = refl
-native_named (suc (suc (suc zero))) low = refl
-native_named (suc (suc (suc (suc zero)))) low = refl
-native_named (suc (suc (suc (suc (suc zero))))) low = refl
-native_named (suc (suc (suc (suc (suc (suc zero)))))) low = refl
-native_named (suc (suc (suc (suc (suc (suc (suc zero))))))) low = refl
-native_named (suc (suc (suc (suc (suc (suc (suc (suc zero)))))))) low = refl
-native_named (suc (suc (suc (suc (suc (suc (suc (suc (suc zero))))))))) low = refl
-native_named (suc (suc (suc (suc (suc (suc (suc (suc (suc (suc zero)))))))))) low = refl
-native_named (suc (suc (suc (suc (suc (suc (suc (suc (suc (suc (suc zero))))))))))) low = refl
-native_named (suc (suc (suc (suc (suc (suc (suc (suc (suc (suc (suc (suc zero)))))))))))) low = refl
-native_named (suc (suc (suc (suc (suc (suc (suc (suc (suc (suc (suc (suc (suc zero))))))))))))) low = refl
-native_named (suc (suc (suc (suc (suc (suc (suc (suc (suc (suc (suc (suc (suc (suc k)))))))))))))) low = absurd (omega (arith, low))
+-- a test of each name holds of the one at a place
+named_at : (names : List (List ℕ)) → EachPasses is_name_byte names → (k : ℕ) → Passes is_name_byte (name_at names k)
+named_at [] h k = refl
+named_at (w ∷ ws) h zero = (and_parts (list_all is_name_byte w) (list_all (λ v. list_all is_name_byte v) ws) h).0
+named_at (w ∷ ws) h (suc k) = named_at ws (and_parts (list_all is_name_byte w) (list_all (λ v. list_all is_name_byte v) ws) h).1 k
 
-native_is : (k : ℕ) → k < 14 → (inside : List ℕ) → command_parts_form (option_map (λ k. (k, inside)) (command_kind (name_at native_names k))) ≡ list_all is_arg (call_words inside)
-unfolding command_kind native_of
-native_is zero low inside = refl
-native_is (suc zero) low inside = refl
-native_is (suc (suc zero)) low inside = refl
-native_is (suc (suc (suc zero))) low inside = refl
-native_is (suc (suc (suc (suc zero)))) low inside = refl
-native_is (suc (suc (suc (suc (suc zero))))) low inside = refl
-native_is (suc (suc (suc (suc (suc (suc zero)))))) low inside = refl
-native_is (suc (suc (suc (suc (suc (suc (suc zero))))))) low inside = refl
-native_is (suc (suc (suc (suc (suc (suc (suc (suc zero)))))))) low inside = refl
-native_is (suc (suc (suc (suc (suc (suc (suc (suc (suc zero))))))))) low inside = refl
-native_is (suc (suc (suc (suc (suc (suc (suc (suc (suc (suc zero)))))))))) low inside = refl
-native_is (suc (suc (suc (suc (suc (suc (suc (suc (suc (suc (suc zero))))))))))) low inside = refl
-native_is (suc (suc (suc (suc (suc (suc (suc (suc (suc (suc (suc (suc zero)))))))))))) low inside = refl
-native_is (suc (suc (suc (suc (suc (suc (suc (suc (suc (suc (suc (suc (suc zero))))))))))))) low inside = refl
-native_is (suc (suc (suc (suc (suc (suc (suc (suc (suc (suc (suc (suc (suc (suc k)))))))))))))) low inside = absurd (omega (arith, low))
+native_named : (k : ℕ) → Passes is_name_byte (name_at native_names k)
+native_named k = named_at native_names refl k
 
-native_read : (k : ℕ) → k < 14 → (inside : List ℕ) → command_parts_value (option_map (λ k. (k, inside)) (command_kind (name_at native_names k))) ≡ option_map (λ xs. command.Call k xs) (each_of arg_of (call_words inside))
-unfolding command_kind native_of
-native_read zero low inside = refl
-native_read (suc zero) low inside = refl
-native_read (suc (suc zero)) low inside = refl
-native_read (suc (suc (suc zero))) low inside = refl
-native_read (suc (suc (suc (suc zero)))) low inside = refl
-native_read (suc (suc (suc (suc (suc zero))))) low inside = refl
-native_read (suc (suc (suc (suc (suc (suc zero)))))) low inside = refl
-native_read (suc (suc (suc (suc (suc (suc (suc zero))))))) low inside = refl
-native_read (suc (suc (suc (suc (suc (suc (suc (suc zero)))))))) low inside = refl
-native_read (suc (suc (suc (suc (suc (suc (suc (suc (suc zero))))))))) low inside = refl
-native_read (suc (suc (suc (suc (suc (suc (suc (suc (suc (suc zero)))))))))) low inside = refl
-native_read (suc (suc (suc (suc (suc (suc (suc (suc (suc (suc (suc zero))))))))))) low inside = refl
-native_read (suc (suc (suc (suc (suc (suc (suc (suc (suc (suc (suc (suc zero)))))))))))) low inside = refl
-native_read (suc (suc (suc (suc (suc (suc (suc (suc (suc (suc (suc (suc (suc zero))))))))))))) low inside = refl
-native_read (suc (suc (suc (suc (suc (suc (suc (suc (suc (suc (suc (suc (suc (suc k)))))))))))))) low inside = absurd (omega (arith, low))
+-- a name that no other command has
+abbrev is_free : List ℕ → Bool
+is_free w = not (bytes_eq w (codes "split")) && (not (bytes_eq w (codes "merge")) && (not (bytes_eq w (codes "transfer")) && not (bytes_eq w (codes "vec"))))
+
+abbrev is_number : ℕ → Option ℕ → Bool
+is_number n None = false
+is_number n (Some k) = k == n
+
+-- each name is read as the native of its number, from this number on
+abbrev are_natives : ℕ → List (List ℕ) → Bool
+are_natives n [] = true
+are_natives n (w ∷ ws) = (is_free w && is_number n (native_of w)) && are_natives (suc n) ws
+
+all_natives : are_natives 0 native_names ≡ true
+unfolding native_of
+all_natives = refl
+
+abbrev IsNative : List ℕ → ℕ → Type 0
+IsNative w n = (is_free w ≡ true) × (native_of w ≡ Some n)
+
+number_is : (n : ℕ) (o : Option ℕ) → is_number n o ≡ true → o ≡ Some n
+number_is n None h = absurd (cc)
+number_is n (Some k) h = ap (λ m. Some m) (eqb-true k n h)
+
+one_on : (n k : ℕ) → suc n + k ≡ n + suc k
+one_on n k = omega arith
+
+natives_at : (n : ℕ) (ws : List (List ℕ)) → are_natives n ws ≡ true → (k : ℕ) → k < length ws → IsNative (name_at ws k) (n + k)
+natives_at n [] h k low = absurd (omega (arith, low))
+natives_at n (w ∷ ws) h zero low =
+    let here = (and_parts (is_free w && is_number n (native_of w)) (are_natives (suc n) ws) h).0 in
+    let both = and_parts (is_free w) (is_number n (native_of w)) here in
+    (both.0, number_is n (native_of w) both.1 ∙ ap (λ m. Some m) (sym (add-zero n)))
+natives_at n (w ∷ ws) h (suc k) low =
+    let rest = natives_at (suc n) ws (and_parts (is_free w && is_number n (native_of w)) (are_natives (suc n) ws) h).1 k (omega (arith, low)) in
+    (rest.0, rest.1 ∙ ap (λ m. Some m) (one_on n k))
+
+native_at : (k : ℕ) → k < length native_names → IsNative (name_at native_names k) k
+native_at k low = let r = natives_at 0 native_names all_natives k low in (r.0, r.1 ∙ ap (λ m. Some m) (zero-add k))
+
+-- none of the four other commands
+free_parts : (a b c d : Bool) → (not a && (not b && (not c && not d))) ≡ true → (a ≡ false) × (b ≡ false) × (c ≡ false) × (d ≡ false)
+free_parts true b c d h = absurd (cc)
+free_parts false true c d h = absurd (cc)
+free_parts false false true d h = absurd (cc)
+free_parts false false false true h = absurd (cc)
+free_parts false false false false h = (refl, refl, refl, refl)
+
+native_is : (w : List ℕ) (k : ℕ) → IsNative w k → (inside : List ℕ) → command_parts_form (option_map (λ k. (k, inside)) (command_kind w)) ≡ list_all is_arg (call_words inside)
+unfolding command_kind
+native_is w k (free, is) inside =
+    let no = free_parts (bytes_eq w (codes "split")) (bytes_eq w (codes "merge")) (bytes_eq w (codes "transfer")) (bytes_eq w (codes "vec")) free in
+    rw (no.0, no.1, no.2, no.3, is) refl
+
+native_read : (w : List ℕ) (k : ℕ) → IsNative w k → (inside : List ℕ) → command_parts_value (option_map (λ k. (k, inside)) (command_kind w)) ≡ option_map (λ xs. command.Call k xs) (each_of arg_of (call_words inside))
+unfolding command_kind
+native_read w k (free, is) inside =
+    let no = free_parts (bytes_eq w (codes "split")) (bytes_eq w (codes "merge")) (bytes_eq w (codes "transfer")) (bytes_eq w (codes "vec")) free in
+    rw (no.0, no.1, no.2, no.3, is) refl
 
 -- ---- commands
 
@@ -197,7 +214,7 @@ kind_passes k vs low h =
     (wider is_name_byte is_object_byte name_in_object (name_at kind_names k) (kind_named k low)) (args_pass vs h)
 
 pub command_is : (x : CommandWord) → IsCommand x → is_command (command_word x) ≡ true
-unfolding is_command command_kind native_of
+unfolding is_command command_kind
 command_is (command.Split xs) h =
     ap command_parts_form (call_parts (codes "split") (map arg_word xs) refl (args_pass xs h.1)) ∙ ap (list_all is_arg) (split_args xs h) ∙ args_are xs h.1
 command_is (command.Merge xs) h =
@@ -210,11 +227,11 @@ command_is (command.MakeVec k vs) h =
     ∙ ap vector_form (split_commas word (map arg_word vs) (kind_passes k vs h.0 h.1))
     ∙ and_from (is_some (kind_of word)) (list_all is_arg (map arg_word vs)) (ap is_some (kind_back k h.0)) (args_are vs h.1)
 command_is (command.Call k xs) h =
-    ap command_parts_form (call_parts (name_at native_names k) (map arg_word xs) (native_named k h.0) (args_pass xs h.1))
-    ∙ native_is k h.0 (join_with_byte 44 (map arg_word xs)) ∙ ap (list_all is_arg) (split_call xs h.1) ∙ args_are xs h.1
+    ap command_parts_form (call_parts (name_at native_names k) (map arg_word xs) (native_named k) (args_pass xs h.1))
+    ∙ native_is (name_at native_names k) k (native_at k h.0) (join_with_byte 44 (map arg_word xs)) ∙ ap (list_all is_arg) (split_call xs h.1) ∙ args_are xs h.1
 
 pub command_read : (x : CommandWord) → IsCommand x → command_of (command_word x) ≡ Some x
-unfolding command_of command_kind native_of
+unfolding command_of command_kind
 command_read (command.Split xs) h =
     ap command_parts_value (call_parts (codes "split") (map arg_word xs) refl (args_pass xs h.1))
     ∙ ap (λ ws. option_map (λ ys. command.Split ys) (each_of arg_of ws)) (split_args xs h) ∙ ap (option_map (λ ys. command.Split ys)) (args_read xs h.1)
@@ -230,8 +247,8 @@ command_read (command.MakeVec k vs) h =
     ∙ ap vector_value (split_commas word (map arg_word vs) (kind_passes k vs h.0 h.1))
     ∙ rw (kind_back k h.0, args_read vs h.1) refl
 command_read (command.Call k xs) h =
-    ap command_parts_value (call_parts (name_at native_names k) (map arg_word xs) (native_named k h.0) (args_pass xs h.1))
-    ∙ native_read k h.0 (join_with_byte 44 (map arg_word xs)) ∙ ap (λ ws. option_map (λ ys. command.Call k ys) (each_of arg_of ws)) (split_call xs h.1)
+    ap command_parts_value (call_parts (name_at native_names k) (map arg_word xs) (native_named k) (args_pass xs h.1))
+    ∙ native_read (name_at native_names k) k (native_at k h.0) (join_with_byte 44 (map arg_word xs)) ∙ ap (λ ws. option_map (λ ys. command.Call k ys) (each_of arg_of ws)) (split_call xs h.1)
     ∙ ap (option_map (λ ys. command.Call k ys)) (args_read xs h.1)
 
 call_passes : (name : List ℕ) (ws : List (List ℕ)) → Passes is_name_byte name → EachPasses is_object_byte ws → Passes is_call_byte (call_word name ws)
@@ -244,7 +261,7 @@ command_passes (command.Split xs) h = call_passes (codes "split") (map arg_word 
 command_passes (command.Merge xs) h = call_passes (codes "merge") (map arg_word xs) refl (args_pass xs h.1)
 command_passes (command.Transfer xs) h = call_passes (codes "transfer") (map arg_word xs) refl (args_pass xs h.1)
 command_passes (command.MakeVec k vs) h = call_passes (codes "vec") (name_at kind_names k ∷ map arg_word vs) refl (kind_passes k vs h.0 h.1)
-command_passes (command.Call k xs) h = call_passes (name_at native_names k) (map arg_word xs) (native_named k h.0) (args_pass xs h.1)
+command_passes (command.Call k xs) h = call_passes (name_at native_names k) (map arg_word xs) (native_named k) (args_pass xs h.1)
 
 -- a command has no `:`
 pub not_input : (x : CommandWord) → IsCommand x → is_input (command_word x) ≡ false

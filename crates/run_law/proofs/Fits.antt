@@ -1,5 +1,5 @@
 -- The transaction that a line of a read schedule makes can be encoded.
-use Rattle.std.proofs.Common.{refl, arith}
+use Rattle.std.proofs.Common.{refl, arith, lit≤}
 use Rattle.std.proofs.lemmas.List.{length-map}
 use Rattle.std.proofs.lemmas.List.Elements.{All-from_recursion}
 use Rattle.std.specs.Prelude.{◌≡◌, ℕ, ◌≤◌, Bool, true, false, cond, ◌&&◌, List, [], ◌∷◌, map, find, length, slice_get, Option, Some, None, option_map, bytes_eq}
@@ -27,6 +27,7 @@ use Rattle.schedule_text.specs.declared.words.ArgWord.{ArgWord}
 use Rattle.schedule_text.specs.declared.words.ArgWord.TheVariants as arg_word
 use Rattle.schedule_text.specs.declared.words.CommandWord.{CommandWord}
 use Rattle.schedule_text.specs.declared.words.CommandWord.TheVariants as command_word
+use Rattle.schedule_text.specs.Commands.{native_names}
 use Rattle.protocol_spec.proofs.ListLemmas.{each_has, find_has}
 use Rattle.protocol_spec.specs.Chain.Words.{Each, first_some}
 use Rattle.protocol_spec.specs.Member.Member.{Member}
@@ -185,13 +186,17 @@ kind-fits kinds_of.Vault = tt
 kind-fits kinds_of.VaultKey = tt
 kind-fits kinds_of.Limit = tt
 
+-- the number of a native is a byte
+natives-few : length native_names ≤ 255
+natives-few = lit≤ tt
+
 command-fits : (c : CommandWord) → IsCommand c → IsShortCommand most_words c → command.fits (command_of c)
 unfolding command
 command-fits (command_word.Split words) is short = (first-fits words is.1, spelled-arguments (length words) (words_behind words) short (behind-fit words is.1))
 command-fits (command_word.Merge words) is short = (first-fits words is.1, spelled-arguments (length words) (words_behind words) short (behind-fit words is.1))
 command-fits (command_word.Transfer words) is short = (spelled-arguments (length words) (words_before words) short (before-fit words is.1), last-fits words is.1)
 command-fits (command_word.MakeVec n values) is short = (kind-fits (kind_or (slice_get kinds n)), spelled-arguments (length values) (map argument_of values) short (arguments-fit values is.1))
-command-fits (command_word.Call native words) is short = let known = is.0 in (omega (arith, known), spelled-arguments (length words) (map argument_of words) short (arguments-fit words is.1))
+command-fits (command_word.Call native words) is short = let known = is.0 in let few = natives-few in (omega (arith, known, few), spelled-arguments (length words) (map argument_of words) short (arguments-fit words is.1))
 
 commands-fit : (cs : List CommandWord) → AllByRecursion IsCommand cs → AllByRecursion (IsShortCommand most_words) cs → AllByRecursion command.fits (map command_of cs) × (length (map command_of cs) ≡ length cs)
 commands-fit [] is short = (tt, refl)

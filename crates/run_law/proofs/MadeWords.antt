@@ -1,5 +1,5 @@
 -- The words of the generator's schedule have their forms and ranges.
-use Rattle.std.proofs.Common.{◌≡◌, ◌==◌, ℕ, ◌+◌, ◌-◌, ◌%◌, ◌<◌, ◌≤◌, nat_le, Bool, true, false, cond, ◌&&◌, [], ◌∷◌, ◌++◌, map, length, codes, decimal, refl, arith}
+use Rattle.std.proofs.Common.{◌≡◌, ◌==◌, ℕ, ◌+◌, ◌-◌, ◌%◌, ◌<◌, ◌≤◌, nat_le, Bool, true, false, cond, ◌&&◌, [], ◌∷◌, ◌++◌, map, length, codes, decimal, refl, arith, lit<}
 use Rattle.std.proofs.lemmas.Bool.{and_from, le-leb}
 use Rattle.std.proofs.lemmas.Fmt.{length-decimal-le}
 use Rattle.std.specs.List.{AllByRecursion, flat_map, list_all, range_with_len}
@@ -74,7 +74,7 @@ write_fits k small = (
   (coin_named k small, omega arith),
   omega arith,
   (omega arith, ((refl, omega arith), tt)),
-  ((omega arith, (omega arith, (omega arith, tt))), tt),
+  ((lit< tt, (omega arith, (omega arith, tt))), tt),
 )
 
 read_fits : (k : ℕ) → k < 100000 → IsEvent (read_event k)
@@ -86,7 +86,7 @@ read_fits k small = (
   (coin_named k small, omega arith),
   omega arith,
   (omega arith, ((refl, omega arith), tt)),
-  ((omega arith, (omega arith, (omega arith, tt))), tt),
+  ((lit< tt, (omega arith, (omega arith, tt))), tt),
 )
 
 tx_pick : (first second third : Bool) (k : ℕ) → k < 100000 → IsEvent (cond first (split_event k) (cond second (spend_event k) (cond third (write_event k) (read_event k))))

@@ -158,7 +158,7 @@ kind_small : (w : List ℕ) (n : ℕ) → kind_of w ≡ Some n → n < 6
 unfolding kind_of
 kind_small w n h = names_said kind_names w n h
 
-native_small : (w : List ℕ) (n : ℕ) → native_of w ≡ Some n → n < 14
+native_small : (w : List ℕ) (n : ℕ) → native_of w ≡ Some n → n < length native_names
 unfolding native_of
 native_small w n h = names_said native_names w n h
 
@@ -168,7 +168,7 @@ vector_said (w ∷ ws) x h =
     let read = both_said (λ k vs. command.MakeVec k vs) (kind_of w) (each_of arg_of ws) x h in
     subst IsCommand read.4 (kind_small w read.0 read.2, (each_said IsArg arg_of arg_said ws read.1 read.3).0)
 
-call_said : (n : ℕ) (inside : List ℕ) (x : CommandWord) → n < 14 → option_map (λ xs. command.Call n xs) (each_of arg_of (call_words inside)) ≡ Some x → IsCommand x
+call_said : (n : ℕ) (inside : List ℕ) (x : CommandWord) → n < length native_names → option_map (λ xs. command.Call n xs) (each_of arg_of (call_words inside)) ≡ Some x → IsCommand x
 call_said n inside x small h =
     let read = map_said (λ xs. command.Call n xs) (each_of arg_of (call_words inside)) x h in
     subst IsCommand read.2 (small, (each_said IsArg arg_of arg_said (call_words inside) read.0 read.1).0)

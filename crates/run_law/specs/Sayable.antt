@@ -22,6 +22,7 @@ use Rattle.schedule_text.specs.declared.statement.Statement.{Statement}
 use Rattle.schedule_text.specs.declared.statement.Statement.TheVariants as statement
 use Rattle.schedule_text.specs.Agrees.{no_lines}
 use Rattle.schedule_text.specs.Bytes.{is_name}
+use Rattle.schedule_text.specs.Commands.{native_names}
 use Rattle.schedule_text.specs.Known.{add_line}
 use Rattle.run_law.specs.Canonical.{statements}
 
@@ -73,7 +74,7 @@ IsCommand (command.Split args) = AreArgs args
 IsCommand (command.Merge args) = AreArgs args
 IsCommand (command.Transfer args) = AreArgs args
 IsCommand (command.MakeVec kind values) = (kind < 6) × AllByRecursion IsArg values
-IsCommand (command.Call native args) = (native < 14) × AllByRecursion IsArg args
+IsCommand (command.Call native args) = (native < length native_names) × AllByRecursion IsArg args
 
 abbrev pub IsOrigin : Option (List ℕ) → Type 0
 IsOrigin None = Unit {0}

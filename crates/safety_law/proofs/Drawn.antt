@@ -1,12 +1,9 @@
 -- An execution creates no more than its commands can draw.
 use Rattle.std.proofs.Common.{refl, subst, arith}
-use Rattle.std.specs.Prelude.{◌≡◌, ◌≤◌, ◌+◌, ◌-◌, ℕ, suc, sum, sum_by, Bool, true, false, cond, not, nat_lt, nat_le, List, [], ◌∷◌, map, length, slice_get, Option, Some, None, option_map, Result, Ok, Err}
+use Rattle.std.specs.Prelude.{◌≡◌, ◌≤◌, ◌+◌, ℕ, suc, sum, Bool, true, false, cond, nat_lt, List, [], ◌∷◌, map, length, Option, Some, None, option_map, Result, Ok, Err}
 use Rattle.std.specs.List.{list_any}
 use Rattle.digest_core.specs.declared.Digest.{Digest}
-use Rattle.chain_types.specs.declared.objects.Content.{Content}
-use Rattle.chain_types.specs.declared.objects.Content.TheVariants as content
 use Rattle.chain_types.specs.declared.objects.Object.{Object}
-use Rattle.chain_types.specs.declared.objects.Owner.TheVariants as owner
 use Rattle.chain_types.specs.declared.transactions.Argument.{Argument}
 use Rattle.chain_types.specs.declared.transactions.Command.{Command}
 use Rattle.chain_types.specs.declared.transactions.Command.TheVariants as command
@@ -16,10 +13,11 @@ use Rattle.protocol_spec.specs.declared.pieces.Given.{Given}
 use Rattle.protocol_spec.specs.declared.pieces.Gave.{Gave}
 use Rattle.protocol_spec.specs.declared.pieces.Gave.TheVariants as gave
 use Rattle.chain_types.specs.Digests.{transaction_digest}
-use Rattle.protocol_spec.proofs.ListLemmas.{map_length, each_at}
-use Rattle.protocol_spec.specs.Chain.Words.{Each, first_some, refused_or}
+use Rattle.protocol_spec.proofs.ListLemmas.{map_length}
+use Rattle.protocol_spec.specs.Chain.Words.{first_some, refused_or}
 use Rattle.protocol_spec.specs.Chain.Keys.{version_of}
-use Rattle.protocol_spec.specs.Block.Natives.{currency_of, amount_of, holding, parameters_of, amount_limit, number_at, item_at, items_at, names_vault, may_be_shared, Site, gives, owned_by_all, abort_if, other_currency, joined, coin_mint, coin_burn, counter_add, counter_require, vault_deposit, vault_withdraw, share, counter_add_limited, natives, gave_at, native_gives}
+use Rattle.protocol_spec.specs.Block.Natives.{amount_of, parameters_of, Site, native_gives}
+use Rattle.protocol_spec.proofs.Gifts.{Gift, Any, AnyNumber, any-gift}
 use Rattle.protocol_spec.specs.Block.Block.{Block}
 use Rattle.protocol_spec.specs.Block.Commands.{Fault, cause, Need, paired, number_in, item_in, items_in, split_block, split, merge_cases, merge_block, merge, address_in, transfer_block, vector_block, given_all, called_block, called, site, performed, taken_cause, command_step}
 use Rattle.protocol_spec.specs.Block.Execution.{Failure, commands_next, commands_from, is_unused, checked_end, first_block, outcome, execution, executed_by}
@@ -32,106 +30,12 @@ abbrev MakesMost : ℕ → Gave → Type 0
 MakesMost most (gave.Abort code) = Unit {0}
 MakesMost most (gave.Done results changed left made) = made ≤ most
 
-abort-most : (b : Bool) (code most : ℕ) (g : Gave) → MakesMost most g → MakesMost most (abort_if b code g)
-abort-most true code most g h = tt
-abort-most false code most g h = h
-
-gives-most : (s : Site) (cs : List Content) (changed : Option Item) → MakesMost (s.made + 2) (gives s cs changed)
-gives-most s [] changed = omega arith
-gives-most s (c ∷ cs) changed = omega arith
-
-abbrev most : Site → ℕ
-most s = s.made + 2
-
-same-most : (s : Site) → s.made ≤ most s
-same-most s = omega arith
-
--- two tests before what a native gives
-twice-most : (a b : Bool) (k l : ℕ) (s : Site) (g : Gave) → MakesMost (most s) g → MakesMost (most s) (abort_if a k (abort_if b l g))
-twice-most a b k l s g h = abort-most a k (most s) (abort_if b l g) (abort-most b l (most s) g h)
-
-joined-most : (s : Site) (items : List Item) → MakesMost (most s) (joined s items)
-joined-most s [] = tt
-joined-most s (first ∷ others) = twice-most (list_any (other_currency first) others) (nat_le amount_limit (amount_of first.content + sum_by (λ (i : Item). amount_of i.content) others)) 2 3 s
-    (gave.Done (holding (amount_of first.content + sum_by (λ (i : Item). amount_of i.content) others) first ∷ []) None None s.made) (same-most s)
-
-mint-most : (s : Site) (cap : Item) (n : ℕ) → MakesMost (most s) (coin_mint s cap n)
-mint-most s cap n = abort-most (nat_le amount_limit (amount_of cap.content + n)) 1 (most s) (gives s (content.Coin (currency_of cap.content) n ∷ []) (Some (holding (amount_of cap.content + n) cap)))
-    (gives-most s (content.Coin (currency_of cap.content) n ∷ []) (Some (holding (amount_of cap.content + n) cap)))
-
-burn-most : (s : Site) (cap coin : Item) → MakesMost (most s) (coin_burn s cap coin)
-burn-most s cap coin = twice-most (other_currency cap coin) (nat_lt (amount_of cap.content) (amount_of coin.content)) 1 2 s (gives s [] (Some (holding (amount_of cap.content - amount_of coin.content) cap))) (gives-most s [] (Some (holding (amount_of cap.content - amount_of coin.content) cap)))
-
-add-most : (s : Site) (counter : Item) (n : ℕ) → MakesMost (most s) (counter_add s counter n)
-add-most s counter n = abort-most (nat_le amount_limit (amount_of counter.content + n)) 1 (most s) (gives s [] (Some (holding (amount_of counter.content + n) counter))) (gives-most s [] (Some (holding (amount_of counter.content + n) counter)))
-
-require-most : (s : Site) (counter : Item) (least : ℕ) → MakesMost (most s) (counter_require s counter least)
-require-most s counter least = abort-most (nat_lt (amount_of counter.content) least) 1 (most s) (gives s [] None) (gives-most s [] None)
-
-deposit-most : (s : Site) (vault coin : Item) → MakesMost (most s) (vault_deposit s vault coin)
-deposit-most s vault coin = twice-most (other_currency vault coin) (nat_le amount_limit (amount_of vault.content + amount_of coin.content)) 1 2 s (gives s [] (Some (holding (amount_of vault.content + amount_of coin.content) vault))) (gives-most s [] (Some (holding (amount_of vault.content + amount_of coin.content) vault)))
-
-withdraw-most : (s : Site) (vault key : Item) (n : ℕ) → MakesMost (most s) (vault_withdraw s vault key n)
-withdraw-most s vault key n = twice-most (not (names_vault vault.id key.content)) (nat_lt (amount_of vault.content) n) 1 2 s (gives s (content.Coin (currency_of vault.content) n ∷ []) (Some (holding (amount_of vault.content - n) vault))) (gives-most s (content.Coin (currency_of vault.content) n ∷ []) (Some (holding (amount_of vault.content - n) vault)))
-
-share-most : (s : Site) (item : Item) → MakesMost (most s) (share s item)
-share-most s item = twice-most (not item.fresh) (not (may_be_shared item.content)) 1 2 s (owned_by_all s item (owner.Shared s.version)) (same-most s)
-
-limited-most : (s : Site) (counter : Item) (n : ℕ) (limit : Item) → MakesMost (most s) (counter_add_limited s counter n limit)
-limited-most s counter n limit = twice-most (nat_le amount_limit (amount_of counter.content + n)) (nat_lt (amount_of limit.content) (amount_of counter.content + n)) 1 2 s (gives s [] (Some (holding (amount_of counter.content + n) counter))) (gives-most s [] (Some (holding (amount_of counter.content + n) counter)))
-
-all-most : (s : Site) (args : List Given) → Each (MakesMost (most s)) (natives s args)
-all-most s args = (
-  gives-most s (content.Coin (number_at args 0) 0 ∷ []) None,
-  (
-    mint-most s (item_at args 0) (number_at args 1),
-    (
-      burn-most s (item_at args 0) (item_at args 1),
-      (
-        joined-most s (items_at args 0),
-        (
-          gives-most s (content.Counter (number_at args 0) ∷ []) None,
-          (
-            add-most s (item_at args 0) (number_at args 1),
-            (
-              require-most s (item_at args 0) (number_at args 1),
-              (
-                omega arith,
-                (
-                  deposit-most s (item_at args 0) (item_at args 1),
-                  (
-                    withdraw-most s (item_at args 0) (item_at args 1) (number_at args 2),
-                    (
-                      share-most s (item_at args 0),
-                      (
-                        same-most s,
-                        (
-                          gives-most s (content.Limit (number_at args 0) ∷ []) None,
-                          (
-                            limited-most s (item_at args 0) (number_at args 1) (item_at args 2),
-                            tt,
-                          ),
-                        ),
-                      ),
-                    ),
-                  ),
-                ),
-              ),
-            ),
-          ),
-        ),
-      ),
-    ),
-  ),
-)
-
-native-most : (native : ℕ) (s : Site) (args : List Given) → MakesMost (most s) (native_gives native s args)
-unfolding native_gives
-native-most native s args = go (slice_get (natives s args) native) refl
+native-most : (native : ℕ) (s : Site) (args : List Given) → MakesMost (s.made + 2) (native_gives native s args)
+native-most native s args = go (native_gives native s args) (any-gift s args native)
   where
-    go : (g : Option Gave) → slice_get (natives s args) native ≡ g → MakesMost (most s) (gave_at g)
-    go None e = tt
-    go (Some g) e = each_at (MakesMost (most s)) (natives s args) native g (all-most s args) e
+    go : (g : Gave) → Gift Any AnyNumber s args native g → MakesMost (s.made + 2) g
+    go (gave.Abort code) h = tt
+    go (gave.Done results changed left made) h = h.few
 
 -- ---- a command
 

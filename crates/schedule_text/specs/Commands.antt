@@ -1,7 +1,8 @@
 -- The command words of a transaction: a name, and arguments in parentheses. Source: this profile.
-use Rattle.std.specs.Prelude.{◌==◌, ℕ, Bool, true, false, ◌&&◌, List, [], ◌∷◌, Option, Some, None, option_map, is_some, position, codes, if◌then◌else◌}
+use Rattle.std.specs.Prelude.{◌==◌, ℕ, Bool, true, false, ◌&&◌, List, [], ◌∷◌, Option, Some, None, option_map, is_some, map, position, codes, if◌then◌else◌}
 use Rattle.std.specs.List.{list_all, slice_split}
 use Rattle.std.specs.Str.{bytes_eq}
+use Rattle.chain_types.specs.declared.natives.TheConstants.{NATIVES}
 use Rattle.schedule_text.specs.declared.commands.CommandKind.{CommandKind}
 use Rattle.schedule_text.specs.declared.commands.CommandKind.TheVariants as kind
 use Rattle.schedule_text.specs.declared.words.ArgWord.{ArgWord}
@@ -49,12 +50,9 @@ abbrev pub call_words : List ℕ → List (List ℕ)
 call_words [] = []
 call_words (b ∷ bs) = comma_parts (b ∷ bs)
 
--- the natives, by number
+-- the names of the natives, by number
 abbrev pub native_names : List (List ℕ)
-native_names =
-    codes "coin_zero" ∷ codes "coin_mint" ∷ codes "coin_burn" ∷ codes "coin_join_all" ∷ codes "counter_new" ∷ codes "counter_add"
-    ∷ codes "counter_require" ∷ codes "vault_new" ∷ codes "vault_deposit" ∷ codes "vault_withdraw" ∷ codes "share" ∷ codes "freeze"
-    ∷ codes "limit_new" ∷ codes "counter_add_limited" ∷ []
+native_names = map (λ native. native.0.now) NATIVES
 
 unfoldable pub native_of : List ℕ → Option ℕ
 native_of name = position (λ n. bytes_eq n name) native_names

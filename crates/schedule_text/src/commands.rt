@@ -9,6 +9,7 @@ ghost use Rattle.schedule_text.specs.Commands.{place_of, is_place, place_value, 
 
 use crate::bytes::{cut_at, cut_part, has_mark, is_digits, number_in, without_mark};
 use crate::words::{ArgWord, CommandWord};
+use chain_types::{NATIVES, Native};
 use std::alloc::Global;
 use wire_bcs::{OutOfMemory, Seq};
 
@@ -23,24 +24,6 @@ pub(crate) enum CommandKind {
     Call(u8),
 }
 
-/// The natives, by number.
-static NATIVES: [&[u8]; 14] = [
-    b"coin_zero",
-    b"coin_mint",
-    b"coin_burn",
-    b"coin_join_all",
-    b"counter_new",
-    b"counter_add",
-    b"counter_require",
-    b"vault_new",
-    b"vault_deposit",
-    b"vault_withdraw",
-    b"share",
-    b"freeze",
-    b"limit_new",
-    b"counter_add_limited",
-];
-
 /// The kinds of a vector's values, by number.
 static KINDS: [&[u8]; 6] = [b"coin", b"cap", b"counter", b"vault", b"key", b"limit"];
 
@@ -52,11 +35,19 @@ fn place_among(names: &[&[u8]], name: &[u8]) -> Option<usize>
     names.iter().position(|known| *known == name)
 }
 
+/// The place of a name among natives.
+fn native_among(natives: &[Native], name: &[u8]) -> Option<usize>
+    ensures value { result ≡ position (λ n. bytes_eq n.0.now name.now) natives.now }
+    ensures low { IfSome result (λ place. place < length natives.now) }
+{
+    natives.iter().position(|native| native.0 == name)
+}
+
 #[tactic(auto, unfolding(crate::specs::Commands::native_of))]
 fn native_of(name: &[u8]) -> Option<u8>
     ensures { result ≡ native_of name.now }
 {
-    let place = place_among(NATIVES.as_slice(), name)?;
+    let place = native_among(NATIVES.as_slice(), name)?;
     Some(place as u8)
 }
 

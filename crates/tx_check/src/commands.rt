@@ -5,7 +5,7 @@ ghost use Rattle.std.specs.List.{enumerate_from, list_any};
 ghost use Rattle.protocol_spec.specs.Chain.Shape.{arguments_of, is_idle, is_no_input, is_no_native, names_late};
 
 use crate::arguments::{argument_count, command_late, command_no_input};
-use chain_types::{Command, Transaction};
+use chain_types::{Command, LAST_NATIVE, Transaction};
 
 /// Whether one of the commands names an input that does not exist.
 pub(crate) fn names_no_input(tx: &Transaction, commands: &[Command]) -> bool
@@ -62,7 +62,7 @@ fn is_no_native(command: &Command) -> bool
     ensures { result ≡ is_no_native command.now }
 {
     match command {
-        Command::Call { native, .. } => *native > 13,
+        Command::Call { native, .. } => *native > LAST_NATIVE,
         Command::Transfer { .. }
         | Command::Split { .. }
         | Command::Merge { .. }

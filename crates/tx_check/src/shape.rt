@@ -28,7 +28,7 @@ pub enum ShapeRefusal {
     /// - 6: an argument is an input that does not exist
     /// - 7: an argument is a result of a command that is not earlier
     /// - 8: a Split, Merge or Transfer has no amounts, sources or values
-    /// - 9: a native is above 13
+    /// - 9: a native does not exist
     /// - 10: the budget is below the cost
     /// - 11: a version is 0 or above 2^62 - 2
     /// - 12: a command has more than 512 arguments

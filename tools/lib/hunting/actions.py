@@ -1,6 +1,7 @@
 """What a schedule does next: each action adds a line or a few to a draft, chosen so that most of them do something."""
 
 from .plain import wire
+from .plain.natives import NAMES
 from .plans import USERS, Plan, Value, fill
 
 COST, EACH = 1000, 100
@@ -523,7 +524,7 @@ def bytes_of_other(draft, made, call):
 
     epoch, sender, gas, budget, inputs, commands = made.tx.value
     if draft.chance(0.2):
-        commands = (*commands, ("call", draft.random.choice((14, 200)), ()))
+        commands = (*commands, ("call", draft.random.choice((len(NAMES), 200)), ()))
     other = Transaction((epoch, sender, gas, min(budget + draft.random.randrange(1, 3), 2**64 - 1), inputs, commands))
     return other.sealed() if call == "vote" else forged(draft, other)
 

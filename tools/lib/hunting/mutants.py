@@ -20,7 +20,7 @@ MUTANTS = (
     ("shape", "(1 << 62) - 2", "(1 << 62) - 1"),
     ("shape", "(1 << 62) - 2", "(1 << 62) - 3"),
     ("shape", "(1..=MAX_VERSION)", "(0..=MAX_VERSION)"),
-    ("shape", "const LAST_NATIVE: u8 = 13", "const LAST_NATIVE: u8 = 14"),
+    ("shape", "usize::from(*native) >= NAMES.len()", "usize::from(*native) > NAMES.len()"),
     ("shape", "usize::from(n) >= tx.inputs.len()", "usize::from(n) > tx.inputs.len()"),
     ("shape", "usize::from(named) >= command", "usize::from(named) > command"),
     ("shape", "tx.budget < tx.cost()", "tx.budget <= tx.cost()"),

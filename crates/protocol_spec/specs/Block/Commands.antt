@@ -23,8 +23,8 @@ use Rattle.protocol_spec.specs.declared.pieces.Given.TheVariants as given
 use Rattle.protocol_spec.specs.declared.pieces.Placed.{Placed}
 use Rattle.protocol_spec.specs.declared.pieces.Gave.{Gave}
 use Rattle.protocol_spec.specs.declared.pieces.Gave.TheVariants as gave
-use Rattle.protocol_spec.specs.declared.pieces.Mode.{Mode}
-use Rattle.protocol_spec.specs.declared.pieces.Mode.TheVariants as mode
+use Rattle.chain_types.specs.declared.natives.Mode.{Mode}
+use Rattle.chain_types.specs.declared.natives.Mode.TheVariants as mode
 use Rattle.protocol_spec.specs.Chain.Words.{first_some, where_true, unless_refused, refused_or}
 use Rattle.protocol_spec.specs.Chain.Tests.{kind_eq}
 use Rattle.protocol_spec.specs.Block.Natives.{kind_of, currency_of, amount_of, holding, parameters_of, amount_limit, Site, new_item, native_gives}

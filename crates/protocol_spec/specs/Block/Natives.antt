@@ -1,5 +1,6 @@
--- The 14 natives, which stand in for Move code: their parameters and what they give. Source: this profile.
-use Rattle.std.specs.Prelude.{ℕ, ◌+◌, ◌-◌, Bool, true, false, not, ◌==◌, nat_lt, nat_le, List, [], ◌∷◌, sum_by, slice_get, Option, Some, None}
+-- The natives, which stand in for Move code: what they give. Their names and parameters are the table `NATIVES` of
+-- `chain_types`. Source: this profile.
+use Rattle.std.specs.Prelude.{ℕ, ◌+◌, ◌-◌, Bool, true, false, not, ◌==◌, nat_lt, nat_le, List, [], ◌∷◌, map, sum_by, slice_get, Option, Some, None}
 use Rattle.std.specs.List.{list_any}
 use Rattle.digest_core.specs.declared.Digest.{Digest}
 use Rattle.digest_core.specs.Tagged.{created_id_of}
@@ -10,13 +11,13 @@ use Rattle.chain_types.specs.declared.objects.Content.{Content}
 use Rattle.chain_types.specs.declared.objects.Content.TheVariants as content
 use Rattle.chain_types.specs.declared.objects.Owner.{Owner}
 use Rattle.chain_types.specs.declared.objects.Owner.TheVariants as owner
+use Rattle.chain_types.specs.declared.natives.Mode.{Mode}
+use Rattle.chain_types.specs.declared.natives.TheConstants.{NATIVES}
 use Rattle.protocol_spec.specs.declared.pieces.Item.{Item}
 use Rattle.protocol_spec.specs.declared.pieces.Given.{Given}
 use Rattle.protocol_spec.specs.declared.pieces.Given.TheVariants as given
 use Rattle.protocol_spec.specs.declared.pieces.Gave.{Gave}
 use Rattle.protocol_spec.specs.declared.pieces.Gave.TheVariants as gave
-use Rattle.protocol_spec.specs.declared.pieces.Mode.{Mode}
-use Rattle.protocol_spec.specs.declared.pieces.Mode.TheVariants as mode
 use Rattle.chain_types.specs.Equal.{id_eq}
 
 -- ---- contents
@@ -78,23 +79,9 @@ may_be_shared (content.Limit value) = false
 
 -- how each native takes its parameters: by value, by mutable reference, by reference, or a number
 abbrev pub parameters : List (List Mode)
-parameters =
-    (mode.Number ∷ []) ∷
-    (mode.ByMut kind.Cap ∷ mode.Number ∷ []) ∷
-    (mode.ByMut kind.Cap ∷ mode.ByValue (Some kind.Coin) ∷ []) ∷
-    (mode.Coins ∷ []) ∷
-    (mode.Number ∷ []) ∷
-    (mode.ByMut kind.Counter ∷ mode.Number ∷ []) ∷
-    (mode.ByRef kind.Counter ∷ mode.Number ∷ []) ∷
-    (mode.Number ∷ []) ∷
-    (mode.ByMut kind.Vault ∷ mode.ByValue (Some kind.Coin) ∷ []) ∷
-    (mode.ByMut kind.Vault ∷ mode.ByRef kind.VaultKey ∷ mode.Number ∷ []) ∷
-    (mode.ByValue None ∷ []) ∷
-    (mode.ByValue None ∷ []) ∷
-    (mode.Number ∷ []) ∷
-    (mode.ByMut kind.Counter ∷ mode.Number ∷ mode.ByRef kind.Limit ∷ []) ∷ []
+parameters = map (λ native. native.1.now) NATIVES
 
--- a valid shape names only the 14 natives, so another number never comes
+-- a valid shape names only the natives of the table, so another number never comes
 abbrev pub parameters_at : Option (List Mode) → List Mode
 parameters_at None = []
 parameters_at (Some modes) = modes
@@ -109,7 +96,7 @@ mode_of native place = slice_get (parameters_of native) place
 
 -- ---- arguments
 
--- Each argument was read by the mode of its parameter (`parameters`), so it has the form that its native looks for. Words
+-- Each argument was read by the mode of its parameter, so it has the form that its native looks for. Words
 -- are total, so these also say what another form would give; no call has one.
 
 abbrev pub no_item : Item
@@ -236,7 +223,7 @@ counter_add_limited s counter n limit =
     (abort_if (nat_lt (amount_of limit.content) (amount_of counter.content + n)) 2
     (gives s [] (Some (holding (amount_of counter.content + n) counter))))
 
--- what each native gives of these arguments
+-- what each native gives of these arguments, by number
 abbrev pub natives : Site → List Given → List Gave
 natives s args =
     coin_zero s args ∷

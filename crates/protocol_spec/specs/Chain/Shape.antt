@@ -2,6 +2,7 @@
 -- (programmable transaction blocks); the limits are this profile's own.
 use Rattle.std.specs.Prelude.{ℕ, ◌+◌, ◌-◌, ◌*◌, Bool, true, false, ◌||◌, ◌==◌, nat_lt, nat_le, List, [], ◌∷◌, ◌++◌, length, Option}
 use Rattle.std.specs.List.{list_any, enumerate_from}
+use Rattle.chain_types.specs.declared.natives.TheConstants.{LAST_NATIVE}
 use Rattle.chain_types.specs.declared.transactions.Input.{Input}
 use Rattle.chain_types.specs.declared.transactions.Input.TheVariants as input
 use Rattle.chain_types.specs.declared.transactions.Argument.{Argument}
@@ -51,9 +52,9 @@ is_idle (command.Split coin amounts) = is_empty_list amounts
 is_idle (command.Merge target sources) = is_empty_list sources
 is_idle (command.MakeVec kind values) = false
 
--- the natives have the numbers 0 to 13
+-- a number past that of the last native
 abbrev pub is_no_native : Command → Bool
-is_no_native (command.Call native args) = nat_lt 13 native
+is_no_native (command.Call native args) = nat_lt LAST_NATIVE native
 is_no_native (command.Transfer values to) = false
 is_no_native (command.Split coin amounts) = false
 is_no_native (command.Merge target sources) = false

@@ -1,4 +1,4 @@
-"""The fourteen natives: how each takes its arguments, and what it does. Each answers a code to abort with, or nothing, and its results."""
+"""The natives: how each takes its arguments, and what it does. Each answers a code to abort with, or nothing, and its results."""
 
 from collections import namedtuple
 

@@ -2,12 +2,12 @@
 
 from collections import namedtuple
 
-from . import wire
+from . import natives, wire
 
 Named = namedtuple("Named", "how id version digest")
 Object = namedtuple("Object", "id version owner content")
 BOUND = 1 << 62
-MAX_BYTES, MAX_COMMANDS, MAX_INPUTS, MAX_ARGUMENTS, LAST_NATIVE = 131_072, 1024, 256, 512, 13
+MAX_BYTES, MAX_COMMANDS, MAX_INPUTS, MAX_ARGUMENTS, LAST_NATIVE = 131_072, 1024, 256, 512, len(natives.NAMES) - 1
 
 
 class Transaction:
