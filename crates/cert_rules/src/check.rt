@@ -17,6 +17,10 @@ use std::alloc::Global;
 use tx_check::{ShapeRefusal, check_shape};
 use wire_bcs::{Duplicate, OutOfMemory, Seq};
 
+/// The shape fault that only a certificate can have, after the twelve of its transaction: there is not one origin for
+/// each object.
+const WRONG_ORIGINS: u8 = 13;
+
 /// Whether there is one origin for each object.
 #[tactic(auto, unfolding(chain_types::specs::Digests::object_count))]
 fn has_each_origin(cert: &Certificate) -> bool
@@ -39,7 +43,7 @@ fn check_objects(alloc: Global, cert: &Certificate) -> Result<(), CertRefusal>
             if has_each_origin(cert) {
                 Ok(())
             } else {
-                Err(CertRefusal::Shape(13))
+                Err(CertRefusal::Shape(WRONG_ORIGINS))
             }
         }
     }

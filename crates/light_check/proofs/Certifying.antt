@@ -13,6 +13,8 @@ use Rattle.checkpoint_core.specs.Links.{link_answer, wanted_number, wanted_paren
 use Rattle.protocol_spec.specs.Chain.Words.{Each, first_some, where_true}
 use Rattle.protocol_spec.proofs.ListLemmas.{and-first, and-second, all_none}
 use Rattle.protocol_spec.proofs.Truth.{where_not_true}
+use Rattle.light_check.specs.declared.cause.LinkCause.{LinkCause}
+use Rattle.light_check.specs.declared.cause.LinkCause.TheVariants as link_cause
 use Rattle.light_check.specs.declared.chain.Link.{Link}
 use Rattle.light_check.specs.declared.link.Tip.{Tip}
 use Rattle.light_check.specs.declared.chain.ChainRefusal.{ChainRefusal}
@@ -85,28 +87,28 @@ number_goes_on stakes accepts before l h =
     (goes_on (option_map place_of_tip before) l.checkpoint
     (all_none
     (cause_of_link (link_answer (option_map place_of_tip before) l.checkpoint) ∷
-    where_true (not (l.checkpoint.epoch == epoch_behind before)) 3 ∷
-    where_true (not (is_roll stakes (members_in l))) 4 ∷
-    where_true (not (is_quorum stakes (weight stakes (members_in l)))) 5 ∷
-    where_true (not (all_accepted accepts (stated l.checkpoint) l.seals)) 6 ∷ []) h).0).0
+    where_true (not (l.checkpoint.epoch == epoch_behind before)) link_cause.WrongEpoch ∷
+    where_true (not (is_roll stakes (members_in l))) link_cause.Order ∷
+    where_true (not (is_quorum stakes (weight stakes (members_in l)))) link_cause.ShortStake ∷
+    where_true (not (all_accepted accepts (stated l.checkpoint) l.seals)) link_cause.BadSeal ∷ []) h).0).0
 
 linked : (stakes : List ℕ) (accepts : Accepting) (before : Option Checkpoint) (l : Link) → cause_of stakes accepts (option_map causes.tip_of before) l ≡ None → IsLinked stakes accepts before l
 unfolding cause_of
 linked stakes accepts before l h =
     let cases = all_none
     (cause_of_link (link_answer (option_map place_of_tip (option_map causes.tip_of before)) l.checkpoint) ∷
-    where_true (not (l.checkpoint.epoch == epoch_behind (option_map causes.tip_of before))) 3 ∷
-    where_true (not (is_roll stakes (members_in l))) 4 ∷
-    where_true (not (is_quorum stakes (weight stakes (members_in l)))) 5 ∷
-    where_true (not (all_accepted accepts (stated l.checkpoint) l.seals)) 6 ∷ []) h in
+    where_true (not (l.checkpoint.epoch == epoch_behind (option_map causes.tip_of before))) link_cause.WrongEpoch ∷
+    where_true (not (is_roll stakes (members_in l))) link_cause.Order ∷
+    where_true (not (is_quorum stakes (weight stakes (members_in l)))) link_cause.ShortStake ∷
+    where_true (not (all_accepted accepts (stated l.checkpoint) l.seals)) link_cause.BadSeal ∷ []) h in
     let on = goes_on (option_map tip_of before) l.checkpoint (subst (λ t. cause_of_link (link_answer t l.checkpoint) ≡ None) (same_tip before) cases.0) in
     record {
       number = on.0;
       parent = on.1;
-      epoch = eqb-true l.checkpoint.epoch (epoch_behind (option_map causes.tip_of before)) (where_not_true (l.checkpoint.epoch == epoch_behind (option_map causes.tip_of before)) 3 cases.1.0) ∙ same_epoch before;
-      roll = where_not_true (is_roll stakes (members_in l)) 4 cases.1.1.0;
-      quorum = where_not_true (is_quorum stakes (weight stakes (members_in l))) 5 cases.1.1.1.0;
-      sealed = accepted_each accepts (stated l.checkpoint) l.seals (where_not_true (all_accepted accepts (stated l.checkpoint) l.seals) 6 cases.1.1.1.1.0);
+      epoch = eqb-true l.checkpoint.epoch (epoch_behind (option_map causes.tip_of before)) (where_not_true (l.checkpoint.epoch == epoch_behind (option_map causes.tip_of before)) link_cause.WrongEpoch cases.1.0) ∙ same_epoch before;
+      roll = where_not_true (is_roll stakes (members_in l)) link_cause.Order cases.1.1.0;
+      quorum = where_not_true (is_quorum stakes (weight stakes (members_in l))) link_cause.ShortStake cases.1.1.1.0;
+      sealed = accepted_each accepts (stated l.checkpoint) l.seals (where_not_true (all_accepted accepts (stated l.checkpoint) l.seals) link_cause.BadSeal cases.1.1.1.1.0);
     }
 
 without_cause : (stakes : List ℕ) (accepts : Accepting) (before : Option Checkpoint) (l : Link) → IsLinked stakes accepts before l → cause_of stakes accepts (option_map causes.tip_of before) l ≡ None
@@ -114,18 +116,18 @@ unfolding cause_of
 without_cause stakes accepts before l is =
     first_none
     (cause_of_link (link_answer (option_map place_of_tip (option_map causes.tip_of before)) l.checkpoint) ∷
-    where_true (not (l.checkpoint.epoch == epoch_behind (option_map causes.tip_of before))) 3 ∷
-    where_true (not (is_roll stakes (members_in l))) 4 ∷
-    where_true (not (is_quorum stakes (weight stakes (members_in l)))) 5 ∷
-    where_true (not (all_accepted accepts (stated l.checkpoint) l.seals)) 6 ∷ []) (
+    where_true (not (l.checkpoint.epoch == epoch_behind (option_map causes.tip_of before))) link_cause.WrongEpoch ∷
+    where_true (not (is_roll stakes (members_in l))) link_cause.Order ∷
+    where_true (not (is_quorum stakes (weight stakes (members_in l)))) link_cause.ShortStake ∷
+    where_true (not (all_accepted accepts (stated l.checkpoint) l.seals)) link_cause.BadSeal ∷ []) (
       subst (λ t. cause_of_link (link_answer t l.checkpoint) ≡ None) (sym (same_tip before)) (goes_on_back (option_map tip_of before) l.checkpoint is.number is.parent),
       (
-        is_no_case (l.checkpoint.epoch == epoch_behind (option_map causes.tip_of before)) 3 (eq-eqb l.checkpoint.epoch (epoch_behind (option_map causes.tip_of before)) (is.epoch ∙ sym (same_epoch before))),
+        is_no_case (l.checkpoint.epoch == epoch_behind (option_map causes.tip_of before)) link_cause.WrongEpoch (eq-eqb l.checkpoint.epoch (epoch_behind (option_map causes.tip_of before)) (is.epoch ∙ sym (same_epoch before))),
         (
-          is_no_case (is_roll stakes (members_in l)) 4 is.roll,
+          is_no_case (is_roll stakes (members_in l)) link_cause.Order is.roll,
           (
-            is_no_case (is_quorum stakes (weight stakes (members_in l))) 5 is.quorum,
-            (is_no_case (all_accepted accepts (stated l.checkpoint) l.seals) 6 (each_accepted accepts (stated l.checkpoint) l.seals is.sealed), tt),
+            is_no_case (is_quorum stakes (weight stakes (members_in l))) link_cause.ShortStake is.quorum,
+            (is_no_case (all_accepted accepts (stated l.checkpoint) l.seals) link_cause.BadSeal (each_accepted accepts (stated l.checkpoint) l.seals is.sealed), tt),
           ),
         ),
       ),
@@ -133,7 +135,7 @@ without_cause stakes accepts before l is =
 
 -- ---- all links
 
-none_first : (place : ℕ) (cause : Option ℕ) (rest : Option (ℕ × ℕ)) → first_some (causes.at_place place cause ∷ rest ∷ []) ≡ None → (cause ≡ None) × (rest ≡ None)
+none_first : (place : ℕ) (cause : Option LinkCause) (rest : Option (ℕ × ℕ)) → first_some (causes.at_place place cause ∷ rest ∷ []) ≡ None → (cause ≡ None) × (rest ≡ None)
 none_first place None None h = (refl, refl)
 none_first place None (Some x) h = absurd (cc)
 none_first place (Some c) rest h = absurd (cc)

@@ -10,6 +10,8 @@ use Rattle.checkpoint_core.specs.declared.links.LinkRefusal.TheVariants as link_
 use Rattle.checkpoint_core.specs.Checkpoints.{digest_of_checkpoint}
 use Rattle.checkpoint_core.specs.Links.{link_answer}
 use Rattle.protocol_spec.specs.Chain.Words.{first_some, where_true}
+use Rattle.light_check.specs.declared.cause.LinkCause.{LinkCause}
+use Rattle.light_check.specs.declared.cause.LinkCause.TheVariants as link_cause
 use Rattle.light_check.specs.declared.chain.Link.{Link}
 use Rattle.light_check.specs.declared.chain.ChainRefusal.{ChainRefusal}
 use Rattle.light_check.specs.declared.chain.ChainRefusal.TheVariants as refused
@@ -27,29 +29,37 @@ abbrev pub epoch_behind : Option Tip → ℕ
 epoch_behind None = 0
 epoch_behind (Some tip) = if tip.last then tip.epoch + 1 else tip.epoch
 
--- another number is cause 1, another parent cause 2
-abbrev pub cause_of_link : Result (Unit {0}) LinkRefusal → Option ℕ
+-- the number that a cause has in a refusal
+abbrev pub number_of_cause : LinkCause → ℕ
+number_of_cause link_cause.WrongNumber = 1
+number_of_cause link_cause.WrongParent = 2
+number_of_cause link_cause.WrongEpoch = 3
+number_of_cause link_cause.Order = 4
+number_of_cause link_cause.ShortStake = 5
+number_of_cause link_cause.BadSeal = 6
+
+abbrev pub cause_of_link : Result (Unit {0}) LinkRefusal → Option LinkCause
 cause_of_link (Ok done) = None
-cause_of_link (Err (link_refused.WrongNumber had want)) = Some 1
-cause_of_link (Err (link_refused.WrongParent had want)) = Some 2
+cause_of_link (Err (link_refused.WrongNumber had want)) = Some link_cause.WrongNumber
+cause_of_link (Err (link_refused.WrongParent had want)) = Some link_cause.WrongParent
 
 abbrev pub all_accepted : Accepting → List ℕ → List MemberSeal → Bool
 all_accepted accepts bytes [] = true
 all_accepted accepts bytes (s ∷ seals) = accepts (signers.Member s.member) bytes s.seal && all_accepted accepts bytes seals
 
--- the causes in order: number, parent, epoch, members, stake, seals
-unfoldable pub cause_of : List ℕ → Accepting → Option Tip → Link → Option ℕ
+-- the first cause that applies
+unfoldable pub cause_of : List ℕ → Accepting → Option Tip → Link → Option LinkCause
 cause_of stakes accepts before l = first_some (
     cause_of_link (link_answer (option_map place_of_tip before) l.checkpoint) ∷
-    where_true (not (l.checkpoint.epoch == epoch_behind before)) 3 ∷
-    where_true (not (is_roll stakes (members_in l))) 4 ∷
-    where_true (not (is_quorum stakes (weight stakes (members_in l)))) 5 ∷
-    where_true (not (all_accepted accepts (stated l.checkpoint) l.seals)) 6 ∷ [])
+    where_true (not (l.checkpoint.epoch == epoch_behind before)) link_cause.WrongEpoch ∷
+    where_true (not (is_roll stakes (members_in l))) link_cause.Order ∷
+    where_true (not (is_quorum stakes (weight stakes (members_in l)))) link_cause.ShortStake ∷
+    where_true (not (all_accepted accepts (stated l.checkpoint) l.seals)) link_cause.BadSeal ∷ [])
 
-abbrev pub at_place : ℕ → Option ℕ → Option (ℕ × ℕ)
-at_place place cause = option_map (λ c. (place, c)) cause
+abbrev pub at_place : ℕ → Option LinkCause → Option (ℕ × ℕ)
+at_place place cause = option_map (λ c. (place, number_of_cause c)) cause
 
--- the place and the cause of the first bad link, if the first of these stands at this place after this tip
+-- the place and the cause's number of the first bad link, if the first of these stands at this place after this tip
 abbrev pub first_bad_from : List ℕ → Accepting → ℕ → Option Tip → List Link → Option (ℕ × ℕ)
 first_bad_from stakes accepts place before [] = None
 first_bad_from stakes accepts place before (l ∷ ls) =

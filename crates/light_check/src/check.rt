@@ -31,7 +31,12 @@ fn check_links<C: Checker>(
         };
         match cause_of(alloc, committee, checker, before, link, tip.digest) {
             Ok(None) => {}
-            Ok(Some(cause)) => return Err(ChainRefusal::Bad { place, cause }),
+            Ok(Some(cause)) => {
+                return Err(ChainRefusal::Bad {
+                    place,
+                    cause: cause.number(),
+                });
+            }
             Err(_) => return Err(ChainRefusal::OutOfMemory),
         }
         before = Some(tip);

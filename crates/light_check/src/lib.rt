@@ -6,6 +6,7 @@
 //! bytes, of which it writes one line.
 #![tactic(auto)]
 
+mod cause;
 mod chain;
 mod chain_wire;
 mod check;

@@ -7,6 +7,7 @@ ghost use Rattle.checkpoint_core.specs.Links.{HasNext, link_answer};
 ghost use Rattle.light_check.specs.Certified.{stated};
 ghost use Rattle.light_check.specs.Causes.{all_accepted, cause_of, cause_of_link, epoch_behind, place_of_tip, tip_of};
 
+use crate::cause::LinkCause;
 use crate::chain::Link;
 use chain_messages::{MemberSeal, Statement, encode_statement, members_of};
 use checkpoint_core::{Checkpoint, LinkRefusal, check_link, checkpoint_digest};
@@ -47,15 +48,15 @@ fn place_of_tip(tip: Option<Tip>) -> Option<(u64, Digest)>
     }
 }
 
-/// Whether the number or the parent is another: cause 1 or 2.
-fn cause_of_link(before: Option<(u64, Digest)>, checkpoint: &Checkpoint) -> Option<u8>
+/// Whether the number or the parent is another.
+fn cause_of_link(before: Option<(u64, Digest)>, checkpoint: &Checkpoint) -> Option<LinkCause>
     requires { HasNext before }
     ensures { result ≡ cause_of_link (link_answer before checkpoint.now) }
 {
     match check_link(before, checkpoint) {
         Ok(()) => None,
-        Err(LinkRefusal::WrongNumber { .. }) => Some(1),
-        Err(LinkRefusal::WrongParent { .. }) => Some(2),
+        Err(LinkRefusal::WrongNumber { .. }) => Some(LinkCause::WrongNumber),
+        Err(LinkRefusal::WrongParent { .. }) => Some(LinkCause::WrongParent),
     }
 }
 
@@ -116,7 +117,7 @@ pub(crate) fn cause_of<C: Checker>(
     before: Option<Tip>,
     link: &Link,
     digest: Digest,
-) -> Result<Option<u8>, OutOfMemory>
+) -> Result<Option<LinkCause>, OutOfMemory>
     requires digest { digest ≡ digest_of_checkpoint link.now.checkpoint }
     requires next { HasNext (option_map place_of_tip before) }
     ensures { IfOk result (λ cause. cause ≡ cause_of committee.now (C.accepts checker.now) before link.now) }
@@ -125,18 +126,18 @@ pub(crate) fn cause_of<C: Checker>(
         return Ok(Some(cause));
     }
     if !is_next_epoch(before, link.checkpoint.epoch) {
-        return Ok(Some(3));
+        return Ok(Some(LinkCause::WrongEpoch));
     }
     let members = members_of(alloc, link.seals.as_slice())?;
     if !committee.is_roll(&members) {
-        return Ok(Some(4));
+        return Ok(Some(LinkCause::Order));
     }
     if !committee.is_quorum(committee.weight(&members)) {
-        return Ok(Some(5));
+        return Ok(Some(LinkCause::ShortStake));
     }
     let bytes = stated(alloc, &link.checkpoint, digest)?;
     if !all_accepted(checker, bytes.as_slice(), link.seals.as_slice()) {
-        return Ok(Some(6));
+        return Ok(Some(LinkCause::BadSeal));
     }
     Ok(None)
 }

@@ -1,6 +1,6 @@
 -- The causes with the places that were seen are those with the earlier arguments.
-use Rattle.std.proofs.Common.{◌≡◌, ℕ, ◌+◌, length, take, arith, append_assoc, length-append, Bool, true, false, ◌&&◌, ◌||◌, List, [], ◌∷◌, ◌++◌, map, Option, Some, None, refl, ap, sym, ◌∙◌, cond}
-use Rattle.std.specs.Prelude.{◌==◌}
+use Rattle.std.proofs.Common.{◌≡◌, ℕ, ◌+◌, length, take, arith, append_assoc, length-append, Bool, true, false, not, ◌&&◌, ◌||◌, List, [], ◌∷◌, ◌++◌, map, Option, Some, None, refl, ap, sym, ◌∙◌, cond}
+use Rattle.std.specs.Prelude.{◌==◌, option_map}
 use Rattle.std.specs.List.{list_any}
 use Rattle.std.proofs.lemmas.List.{map-append, take_at}
 use Rattle.std.proofs.lemmas.Bool.{and_parts, eqb-true, eq-eqb, ne_eqb}
@@ -12,12 +12,14 @@ use Rattle.protocol_spec.proofs.ListLemmas.{any_last}
 use Rattle.protocol_spec.specs.Chain.Words.{first_some, where_true}
 use Rattle.protocol_spec.specs.Block.Block as block
 use Rattle.protocol_spec.specs.Block.Commands as commands
+use Rattle.ptb_run.specs.declared.halt.Cause.{Cause}
+use Rattle.ptb_run.specs.declared.halt.Cause.TheVariants as cause
 use Rattle.ptb_run.specs.declared.value.Spot.{Spot}
 use Rattle.ptb_run.specs.declared.value.Spot.TheVariants as spots
 use Rattle.ptb_run.specs.declared.needs.Wanted.{Wanted}
 use Rattle.ptb_run.specs.Values.{spot_at, spot_eq, spot_of}
 use Rattle.ptb_run.specs.Needs.{need_meant, wanted_of}
-use Rattle.ptb_run.specs.Causes.{cause_of, causes_after, causes_at, is_named, is_seen, named_place_cause, named_value_cause, noted}
+use Rattle.ptb_run.specs.Causes.{cause_of, causes_after, causes_at, is_named, is_seen, named_place_cause, named_value_cause, noted, number_of_cause}
 
 lies_at : (a : Argument) → spot_of (spot_at a) ≡ commands.place_of a
 lies_at argument.Gas = refl
@@ -74,18 +76,47 @@ one_more seen s p = go (is_seen seen s) refl
     go true is = met (spot_eq p s) refl is
     go false is = any_last (λ (other : Spot). spot_eq p other) seen s
 
+-- ---- causes and their numbers
+
+abbrev numbered : Option Cause → Option ℕ
+numbered said = option_map number_of_cause said
+
+first_numbered : (x y : Option Cause) → numbered (first_some (x ∷ y ∷ [])) ≡ first_some (numbered x ∷ numbered y ∷ [])
+first_numbered (Some k) y = refl
+first_numbered None (Some k) = refl
+first_numbered None None = refl
+
+one_numbered : (b : Bool) (k : Cause) → numbered (where_true b k) ≡ where_true b (number_of_cause k)
+one_numbered true k = refl
+one_numbered false k = refl
+
+five_numbered : (a b c d e : Bool)
+    → numbered (first_some (where_true a cause.BadPure ∷ where_true b cause.WrongKind ∷ where_true c cause.OnlyLent ∷ where_true d cause.ReadOnly ∷ where_true e cause.Aliased ∷ []))
+    ≡ first_some (where_true a 3 ∷ where_true b 4 ∷ where_true c 5 ∷ where_true d 6 ∷ where_true e 7 ∷ [])
+five_numbered true b c d e = refl
+five_numbered false true c d e = refl
+five_numbered false false true d e = refl
+five_numbered false false false true e = refl
+five_numbered false false false false true = refl
+five_numbered false false false false false = refl
+
 value_same : (t : Transaction) (c : Command) (earlier : List Argument) (a : Argument) (need : commands.Need) (v : Option block.Value)
-    → named_place_cause t c (list_any (λ (e : Argument). block.place_eq (commands.place_of e) (commands.place_of a)) earlier) (commands.place_of a) need v ≡ commands.value_cause t c earlier a need v
+    → numbered (named_place_cause t c (list_any (λ (e : Argument). block.place_eq (commands.place_of e) (commands.place_of a)) earlier) (commands.place_of a) need v) ≡ commands.value_cause t c earlier a need v
 unfolding named_value_cause
 value_same t c earlier a need None = refl
-value_same t c earlier a need (Some value) = refl
+value_same t c earlier a need (Some value) =
+    five_numbered (commands.is_bad_pure need value) (not (commands.is_right_kind need value)) (commands.takes_value need && commands.stays_in_place t c (commands.place_of a)) (commands.changes_value need && commands.is_frozen_place t (commands.place_of a)) (commands.is_aliased earlier a value)
 
 cause_same : (t : Transaction) (b : block.Block) (c : Command) (earlier : List Argument) (w : Wanted)
-    → cause_of t b c (list_any (λ (e : Argument). block.place_eq (commands.place_of e) (commands.place_of w.argument)) earlier) w ≡ commands.argument_cause t b c earlier w.argument (need_meant w.need)
+    → numbered (cause_of t b c (list_any (λ (e : Argument). block.place_eq (commands.place_of e) (commands.place_of w.argument)) earlier) w) ≡ commands.argument_cause t b c earlier w.argument (need_meant w.need)
 unfolding cause_of
 cause_same t b c earlier w =
-    ap (λ (v : Option ℕ). first_some (where_true (commands.has_no_result b w.argument) 2 ∷ v ∷ []))
-    (value_same t c earlier w.argument (need_meant w.need) (block.value_in (commands.place_of w.argument) b.slots))
+    let named = list_any (λ (e : Argument). block.place_eq (commands.place_of e) (commands.place_of w.argument)) earlier in
+    let held = block.value_in (commands.place_of w.argument) b.slots in
+    let at_value = named_place_cause t c named (commands.place_of w.argument) (need_meant w.need) held in
+    first_numbered (where_true (commands.has_no_result b w.argument) cause.NoResult) at_value
+    ∙ ap (λ (x : Option ℕ). first_some (x ∷ numbered at_value ∷ [])) (one_numbered (commands.has_no_result b w.argument) cause.NoResult)
+    ∙ ap (λ (v : Option ℕ). first_some (where_true (commands.has_no_result b w.argument) 2 ∷ v ∷ [])) (value_same t c earlier w.argument (need_meant w.need) held)
 
 agrees_more : (seen : List Spot) (earlier : List Argument) (a : Argument)
     → ((p : Spot) → is_seen seen p ≡ list_any (λ (e : Argument). block.place_eq (commands.place_of e) (spot_of p)) earlier)
@@ -98,18 +129,21 @@ agrees_more seen earlier a agrees p =
 
 causes_from : (t : Transaction) (b : block.Block) (c : Command) (seen : List Spot) (earlier : List Argument)
     → ((p : Spot) → is_seen seen p ≡ list_any (λ (e : Argument). block.place_eq (commands.place_of e) (spot_of p)) earlier)
-    → (wanted : List Wanted) → causes_after t b c seen wanted ≡ commands.arguments_cause t b c earlier (map wanted_of wanted)
+    → (wanted : List Wanted) → numbered (causes_after t b c seen wanted) ≡ commands.arguments_cause t b c earlier (map wanted_of wanted)
 causes_from t b c seen earlier agrees [] = refl
 causes_from t b c seen earlier agrees (w ∷ rest) =
     let named : is_seen seen (spot_at w.argument) ≡ list_any (λ (e : Argument). block.place_eq (commands.place_of e) (commands.place_of w.argument)) earlier
     = agrees (spot_at w.argument) ∙ ap (λ (q : block.Place). list_any (λ (e : Argument). block.place_eq (commands.place_of e) q) earlier) (lies_at w.argument) in
-    let first : cause_of t b c (is_seen seen (spot_at w.argument)) w ≡ commands.argument_cause t b c earlier w.argument (need_meant w.need)
-    = ap (λ (n : Bool). cause_of t b c n w) named ∙ cause_same t b c earlier w in
+    let own = cause_of t b c (is_seen seen (spot_at w.argument)) w in
+    let later = causes_after t b c (noted seen (spot_at w.argument)) rest in
+    let first : numbered own ≡ commands.argument_cause t b c earlier w.argument (need_meant w.need)
+    = ap (λ (n : Bool). numbered (cause_of t b c n w)) named ∙ cause_same t b c earlier w in
     let others = causes_from t b c (noted seen (spot_at w.argument)) (earlier ++ w.argument ∷ []) (agrees_more seen earlier w.argument agrees) rest in
-    ap (λ (x : Option ℕ). first_some (x ∷ causes_after t b c (noted seen (spot_at w.argument)) rest ∷ [])) first
+    first_numbered own later
+    ∙ ap (λ (x : Option ℕ). first_some (x ∷ numbered later ∷ [])) first
     ∙ ap (λ (x : Option ℕ). first_some (commands.argument_cause t b c earlier w.argument (need_meant w.need) ∷ x ∷ [])) others
 
-pub causes_are : (t : Transaction) (b : block.Block) (c : Command) (wanted : List Wanted) → causes_after t b c [] wanted ≡ commands.arguments_cause t b c [] (map wanted_of wanted)
+pub causes_are : (t : Transaction) (b : block.Block) (c : Command) (wanted : List Wanted) → option_map number_of_cause (causes_after t b c [] wanted) ≡ commands.arguments_cause t b c [] (map wanted_of wanted)
 causes_are t b c wanted = causes_from t b c [] [] (λ p. refl) wanted
 
 argument_of : Wanted → Argument
@@ -128,21 +162,24 @@ named_same (w ∷ rest) a =
 
 causes_from_place : (t : Transaction) (b : block.Block) (c : Command) (whole earlier : List Wanted) (place : ℕ) (rest : List Wanted)
     → whole ≡ earlier ++ rest → length earlier ≡ place
-    → causes_at t b c whole place rest ≡ commands.arguments_cause t b c (map argument_of earlier) (map wanted_of rest)
+    → numbered (causes_at t b c whole place rest) ≡ commands.arguments_cause t b c (map argument_of earlier) (map wanted_of rest)
 unfolding argument_of
 causes_from_place t b c whole earlier place [] e at = refl
 causes_from_place t b c whole earlier place (w ∷ rest) e at =
     let before : take place whole ≡ earlier = ap (λ (l : List Wanted). take place l) e ∙ take_at earlier (w ∷ rest) place at in
     let named : is_named (take place whole) (spot_at w.argument) ≡ list_any (λ (x : Argument). block.place_eq (commands.place_of x) (commands.place_of w.argument)) (map argument_of earlier)
     = ap (λ (l : List Wanted). is_named l (spot_at w.argument)) before ∙ named_same earlier w.argument in
-    let first : cause_of t b c (is_named (take place whole) (spot_at w.argument)) w ≡ commands.argument_cause t b c (map argument_of earlier) w.argument (need_meant w.need)
-    = ap (λ (n : Bool). cause_of t b c n w) named ∙ cause_same t b c (map argument_of earlier) w in
+    let own = cause_of t b c (is_named (take place whole) (spot_at w.argument)) w in
+    let later = causes_at t b c whole (place + 1) rest in
+    let first : numbered own ≡ commands.argument_cause t b c (map argument_of earlier) w.argument (need_meant w.need)
+    = ap (λ (n : Bool). numbered (cause_of t b c n w)) named ∙ cause_same t b c (map argument_of earlier) w in
     let count : length (earlier ++ w ∷ []) ≡ place + 1 = let n = length-append earlier (w ∷ []) in omega (arith, n, at) in
     let others = causes_from_place t b c whole (earlier ++ w ∷ []) (place + 1) rest (e ∙ sym (append_assoc earlier (w ∷ []) rest)) count in
-    ap (λ (x : Option ℕ). first_some (x ∷ causes_at t b c whole (place + 1) rest ∷ [])) first
+    first_numbered own later
+    ∙ ap (λ (x : Option ℕ). first_some (x ∷ numbered later ∷ [])) first
     ∙ ap (λ (x : Option ℕ). first_some (commands.argument_cause t b c (map argument_of earlier) w.argument (need_meant w.need) ∷ x ∷ []))
     (others ∙ ap (λ (l : List Argument). commands.arguments_cause t b c l (map wanted_of rest)) (map-append argument_of earlier (w ∷ [])))
 
 -- the arguments one by one, each with those before it, are the arguments
-pub few_are : (t : Transaction) (b : block.Block) (c : Command) (wanted : List Wanted) → causes_at t b c wanted 0 wanted ≡ commands.arguments_cause t b c [] (map wanted_of wanted)
+pub few_are : (t : Transaction) (b : block.Block) (c : Command) (wanted : List Wanted) → option_map number_of_cause (causes_at t b c wanted 0 wanted) ≡ commands.arguments_cause t b c [] (map wanted_of wanted)
 few_are t b c wanted = causes_from_place t b c wanted [] 0 wanted refl refl

@@ -10,6 +10,8 @@ use Rattle.chain_types.specs.declared.transactions.Transaction.{Transaction}
 use Rattle.protocol_spec.specs.Chain.Words.{first_some, refused_or, where_true}
 use Rattle.protocol_spec.specs.Block.Block as block
 use Rattle.protocol_spec.specs.Block.Commands as commands
+use Rattle.ptb_run.specs.declared.halt.Cause.{Cause}
+use Rattle.ptb_run.specs.Causes.{number_of_cause}
 use Rattle.ptb_run.specs.Takes.{is_taken, may_take}
 
 -- a value of which no cause speaks may be taken
@@ -43,6 +45,14 @@ all_free t b c earlier (x ∷ rest) e =
 
 pub all_taken : (t : Transaction) (b : block.Block) (c : Command) → commands.arguments_cause t b c [] (commands.needs_of c) ≡ None → list_all (is_taken b) (commands.needs_of c) ≡ true
 all_taken t b c e = all_free t b c [] (commands.needs_of c) e
+
+-- what the code says of the arguments, as a number
+
+pub said_some : (said : Option Cause) (k : Cause) → said ≡ Some k → option_map number_of_cause said ≡ Some (number_of_cause k)
+said_some said k is = ap (option_map number_of_cause) is
+
+pub said_none : (said : Option Cause) → said ≡ None → option_map number_of_cause said ≡ None
+said_none said is = ap (option_map number_of_cause) is
 
 pub miscounted : (t : Transaction) (tx : Digest) (version n : ℕ) (b : block.Block) (c : Command) → commands.wrong_count c ≡ true
     → commands.command_step t tx version n b c ≡ Err (commands.cause 11)

@@ -11,9 +11,10 @@ use Rattle.ptb_run.specs.declared.halt.Fault.{Fault}
 use Rattle.ptb_run.specs.declared.halt.Fault.TheVariants as faults
 use Rattle.ptb_run.specs.declared.halt.Halt.{Halt}
 use Rattle.ptb_run.specs.declared.halt.Halt.TheVariants as halt
+use Rattle.ptb_run.specs.Causes.{number_of_cause}
 
 abbrev pub fault_of : Fault → commands.Fault
-fault_of (faults.Cause n) = commands.cause n
+fault_of (faults.Cause k) = commands.cause (number_of_cause k)
 fault_of (faults.Abort n) = commands.abort n
 
 -- memory was refused, or the block is now as is said, or the fault is the one that is said

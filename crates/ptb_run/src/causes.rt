@@ -1,14 +1,15 @@
 //! Why the arguments of a command may not be taken.
 
-ghost use Rattle.std.specs.Prelude.{◌≡◌, ◌≤◌, ◌++◌, ◌∷◌, [], IfOk, if◌then◌else◌, length, map, slice_get};
+ghost use Rattle.std.specs.Prelude.{◌≡◌, ◌≤◌, ◌++◌, ◌∷◌, [], IfOk, if◌then◌else◌, length, map, option_map, slice_get};
 ghost use Rattle.protocol_spec.specs.Block.Commands.{arguments_cause, is_common, is_frozen_place, is_pure, is_read_only, is_transfer, stays_in_place};
 ghost use Rattle.protocol_spec.specs.Chain.Words.{first_some};
 ghost use Rattle.ptb_run.specs.Blocks.{block_of};
-ghost use Rattle.ptb_run.specs.Causes.{cause_of, causes_after, causes_at, is_named, is_seen, named_value_cause};
+ghost use Rattle.ptb_run.specs.Causes.{cause_of, causes_after, causes_at, is_named, is_seen, named_value_cause, number_of_cause};
 ghost use Rattle.ptb_run.specs.Needs.{need_meant, wanted_of};
 ghost use Rattle.ptb_run.specs.Values.{spot_of, value_of};
 
 use crate::block::Block;
+use crate::halt::Cause;
 use crate::needs::{Need, Wanted, changes_value, is_bad_pure, is_right_kind, takes_value};
 use crate::value::{Spot, Value, spot_of};
 use chain_types::{Command, Input, Transaction};
@@ -90,19 +91,19 @@ fn value_cause(
     spot: Spot,
     need: Need,
     value: &Value,
-) -> Option<u8>
+) -> Option<Cause>
     ensures { result ≡ named_value_cause tx.now command.now named (spot_of spot) (need_meant need) (value_of value.now) }
 {
     if is_bad_pure(need, value) {
-        Some(3)
+        Some(Cause::BadPure)
     } else if !is_right_kind(need, value) {
-        Some(4)
+        Some(Cause::WrongKind)
     } else if takes_value(need) && stays_in_place(tx, command, spot) {
-        Some(5)
+        Some(Cause::OnlyLent)
     } else if changes_value(need) && is_frozen(tx, spot) {
-        Some(6)
+        Some(Cause::ReadOnly)
     } else if !is_pure(value) && named {
-        Some(7)
+        Some(Cause::Aliased)
     } else {
         None
     }
@@ -116,16 +117,16 @@ fn argument_cause(
     command: &Command,
     named: bool,
     wanted: &Wanted,
-) -> Option<u8>
+) -> Option<Cause>
     ensures { result ≡ cause_of tx.now (block_of block.now) command.now named wanted.now }
 {
     if block.has_no_result(&wanted.argument) {
-        return Some(2);
+        return Some(Cause::NoResult);
     }
     let spot = spot_of(&wanted.argument);
     match block.slots.at(spot) {
         Some(value) => value_cause(tx, command, named, spot, wanted.need, value),
-        None => Some(1),
+        None => Some(Cause::Spent),
     }
 }
 
@@ -146,7 +147,7 @@ fn first_cause(
     tx: &Transaction,
     command: &Command,
     wanted: &[Wanted],
-) -> Result<Option<u8>, OutOfMemory>
+) -> Result<Option<Cause>, OutOfMemory>
     ensures { IfOk result (λ cause. cause ≡ causes_after tx.now (block_of block.now) command.now [] wanted.now) }
 {
     let mut seen = IndexSet::new(alloc);
@@ -179,7 +180,7 @@ fn first_cause_of_few(
     tx: &Transaction,
     command: &Command,
     wanted: &[Wanted],
-) -> Option<u8>
+) -> Option<Cause>
     requires few { length wanted.now ≤ 8 }
     ensures { result ≡ causes_at tx.now (block_of block.now) command.now wanted.now 0 wanted.now }
 {
@@ -205,8 +206,8 @@ pub(crate) fn arguments_cause(
     tx: &Transaction,
     command: &Command,
     wanted: &[Wanted],
-) -> Result<Option<u8>, OutOfMemory>
-    ensures { IfOk result (λ cause. cause ≡ arguments_cause tx.now (block_of block.now) command.now [] (map wanted_of wanted.now)) }
+) -> Result<Option<Cause>, OutOfMemory>
+    ensures { IfOk result (λ cause. option_map number_of_cause cause ≡ arguments_cause tx.now (block_of block.now) command.now [] (map wanted_of wanted.now)) }
 {
     if wanted.len() <= 8 {
         return Ok(first_cause_of_few(block, tx, command, wanted));

@@ -12,7 +12,7 @@ ghost use Rattle.ptb_run.specs.Takes.{is_taken};
 
 use crate::block::Block;
 use crate::drawn::DrawnIds;
-use crate::halt::{Fault, Halt};
+use crate::halt::{Cause, Fault, Halt};
 use crate::value::Value;
 use chain_types::{Argument, Content, Kind, Owner, Transaction};
 use digest_core::Digest;
@@ -167,7 +167,7 @@ fn split_coin(
     Ok(())
 }
 
-/// Gives one new coin for each amount, out of a coin: 8 if it shows less than their sum.
+/// Gives one new coin for each amount, out of a coin, if it shows their sum.
 pub(crate) fn split(
     alloc: Global,
     block: &mut Block,
@@ -182,11 +182,11 @@ pub(crate) fn split(
     ensures rows { OnOk result (rows_of block.new ≡ rows_of block.old + 1) }
 {
     let Some(item) = block.item_in(coin) else {
-        return Err(Halt::Fault(Fault::Cause(4)));
+        return Err(Halt::Fault(Fault::Cause(Cause::WrongKind)));
     };
     let numbers = block.numbers_in(alloc, amounts)?;
     let Some(left) = left_of(&item, numbers.as_slice()) else {
-        return Err(Halt::Fault(Fault::Cause(8)));
+        return Err(Halt::Fault(Fault::Cause(Cause::TooLittle)));
     };
     split_coin(alloc, block, site, coin, &item, left, numbers.as_slice())?;
     Ok(())
@@ -238,8 +238,7 @@ fn merge_coins(
     Ok(())
 }
 
-/// Adds coins to a coin and deletes them: 10 if one has another currency, 9 if the sum is no
-/// amount.
+/// Adds coins to a coin and deletes them, if all are of its currency and the sum is an amount.
 pub(crate) fn merge(
     alloc: Global,
     block: &mut Block,
@@ -251,13 +250,13 @@ pub(crate) fn merge(
     ensures rows { OnOk result (rows_of block.new ≡ rows_of block.old + 1) }
 {
     let Some(item) = block.item_in(target) else {
-        return Err(Halt::Fault(Fault::Cause(4)));
+        return Err(Halt::Fault(Fault::Cause(Cause::WrongKind)));
     };
     if any_other_currency(block, &item, sources) {
-        return Err(Halt::Fault(Fault::Cause(10)));
+        return Err(Halt::Fault(Fault::Cause(Cause::OtherCurrency)));
     }
     let Some(total) = merged(block, tx, target, &item, sources) else {
-        return Err(Halt::Fault(Fault::Cause(9)));
+        return Err(Halt::Fault(Fault::Cause(Cause::Overflow)));
     };
     merge_coins(alloc, block, target, &item, total, sources)?;
     Ok(())

@@ -29,7 +29,10 @@ fn failed_status(command: u16, fault: Fault) -> Status
     ensures { result ≡ failed_status (command, fault_of fault) }
 {
     match fault {
-        Fault::Cause(cause) => Status::Failed { command, cause },
+        Fault::Cause(cause) => Status::Failed {
+            command,
+            cause: cause.number(),
+        },
         Fault::Abort(code) => Status::Aborted { command, code },
     }
 }

@@ -6,11 +6,63 @@ ghost use Rattle.ptb_run.specs.declared.halt.Halt.TheVariants as halt;
 
 use wire_bcs::OutOfMemory;
 
+/// Why a command fails, if no native aborts it.
+#[derive(Clone, Copy, Debug, PartialEq, Eq)]
+pub(crate) enum Cause {
+    /// 1: an earlier command used the value up.
+    Spent,
+    /// 2: there is no such result, or the command that is named has another number of results than one.
+    NoResult,
+    /// 3: bytes have another length than a number's or an address's.
+    BadPure,
+    /// 4: a value is of another kind than is needed.
+    WrongKind,
+    /// 5: something that can only be lent is taken by value.
+    OnlyLent,
+    /// 6: something that can only be read would be changed.
+    ReadOnly,
+    /// 7: an earlier argument names the value.
+    Aliased,
+    /// 8: a split of more than the coin shows.
+    TooLittle,
+    /// 9: the sum of a merge is not an amount.
+    Overflow,
+    /// 10: a merge of another currency.
+    OtherCurrency,
+    /// 11: a native has another number of parameters.
+    WrongCount,
+    /// 12: a result is left at the end.
+    Unused,
+}
+
+impl Cause {
+    ghost use Rattle.ptb_run.specs.Causes.{number_of_cause};
+
+    /// The number of the cause, from 1 to 12.
+    pub(crate) fn number(self) -> u8
+        ensures { result ≡ number_of_cause self }
+    {
+        match self {
+            Cause::Spent => 1,
+            Cause::NoResult => 2,
+            Cause::BadPure => 3,
+            Cause::WrongKind => 4,
+            Cause::OnlyLent => 5,
+            Cause::ReadOnly => 6,
+            Cause::Aliased => 7,
+            Cause::TooLittle => 8,
+            Cause::Overflow => 9,
+            Cause::OtherCurrency => 10,
+            Cause::WrongCount => 11,
+            Cause::Unused => 12,
+        }
+    }
+}
+
 /// Why a command fails.
 #[derive(Clone, Copy, Debug, PartialEq, Eq)]
 pub(crate) enum Fault {
-    /// A cause, 1 to 12.
-    Cause(u8),
+    Cause(Cause),
     /// The code with which a native aborts.
     Abort(u8),
 }

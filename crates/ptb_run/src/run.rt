@@ -12,7 +12,7 @@ ghost use Rattle.ptb_run.specs.Outcomes.{Runs, StepsAt, is_wide};
 
 use crate::block::Block;
 use crate::commands::Site;
-use crate::halt::{Failed, Fault, Halt};
+use crate::halt::{Cause, Failed, Fault, Halt};
 use crate::opening::first_block;
 use crate::step::step;
 use chain_types::{Command, Object, Transaction};
@@ -92,7 +92,7 @@ pub(crate) fn outcome(
     if block.any_unused() {
         return Err(Failed::At {
             command: tx.commands.len() as u16,
-            fault: Fault::Cause(12),
+            fault: Fault::Cause(Cause::Unused),
         });
     }
     Ok(block)

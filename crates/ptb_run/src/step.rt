@@ -14,7 +14,7 @@ use crate::block::Block;
 use crate::calls::call_native;
 use crate::causes::arguments_cause;
 use crate::commands::{Site, make_vector, merge, split, transfer};
-use crate::halt::{Fault, Halt};
+use crate::halt::{Cause, Fault, Halt};
 use crate::needs::{Wanted, needs_of};
 use chain_types::{Command, Transaction};
 use native_calls::parameter_count;
@@ -70,7 +70,7 @@ fn perform(
 }
 
 /// One command: the first cause of its arguments, its own causes, or what it does.
-#[tactic(auto, using(crate::proofs::Stepping::miscounted, crate::proofs::Stepping::caused, crate::proofs::Stepping::free_step, crate::proofs::Stepping::all_taken))]
+#[tactic(auto, using(crate::proofs::Stepping::miscounted, crate::proofs::Stepping::caused, crate::proofs::Stepping::free_step, crate::proofs::Stepping::all_taken, crate::proofs::Stepping::said_some, crate::proofs::Stepping::said_none))]
 pub(crate) fn step(
     alloc: Global,
     block: &mut Block,
@@ -85,7 +85,7 @@ pub(crate) fn step(
     ensures rows { OnOk result (rows_of block.new ≡ rows_of block.old + 1) }
 {
     if wrong_count(command) {
-        return Err(Halt::Fault(Fault::Cause(11)));
+        return Err(Halt::Fault(Fault::Cause(Cause::WrongCount)));
     }
     let wanted = needs_of(alloc, command)?;
     if let Some(cause) = arguments_cause(alloc, block, tx, command, wanted.as_slice())? {

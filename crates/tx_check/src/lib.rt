@@ -7,6 +7,7 @@
 
 mod arguments;
 mod commands;
+mod fault;
 mod ids;
 mod inputs;
 mod length;

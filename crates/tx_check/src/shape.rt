@@ -1,13 +1,14 @@
 //! The faults of shape, the least first.
 
-ghost use Rattle.std.specs.Prelude.{◌≡◌, ◌≤◌, IfOk, length, nat_lt};
+ghost use Rattle.std.specs.Prelude.{◌≡◌, ◌≤◌, IfOk, length, nat_lt, option_map};
 ghost use Rattle.chain_types.specs.Transactions.{transaction};
 ghost use Rattle.protocol_spec.specs.Chain.Shape.{cost, shape_fault};
-ghost use Rattle.tx_check.specs.Answers.{Checks};
+ghost use Rattle.tx_check.specs.Answers.{Checks, number_of_fault};
 ghost use Rattle.tx_check.specs.Parts.{command_fault, list_fault};
 ghost use Rattle.tx_check.specs.declared.shape.ShapeRefusal.TheVariants as refusal;
 
 use crate::commands::{any_idle, any_no_native, any_wide, names_late, names_no_input};
+use crate::fault::ShapeFault;
 use crate::ids::repeats_id;
 use crate::inputs::has_bad_version;
 use crate::length::is_spelled_long;
@@ -44,21 +45,21 @@ impl From<OutOfMemory> for ShapeRefusal {
     }
 }
 
-/// The least of the faults 1 to 5.
+/// The first fault of its size and its objects, if there is one.
 #[tactic(auto, unfolding(crate::specs::Parts::list_fault))]
-fn list_fault(alloc: Global, tx: &Transaction) -> Result<Option<u8>, OutOfMemory>
-    ensures { IfOk result (λ fault. fault ≡ list_fault tx.now) }
+fn list_fault(alloc: Global, tx: &Transaction) -> Result<Option<ShapeFault>, OutOfMemory>
+    ensures { IfOk result (λ fault. option_map number_of_fault fault ≡ list_fault tx.now) }
 {
     if is_spelled_long(alloc, tx)? {
-        Ok(Some(1))
+        Ok(Some(ShapeFault::TooLong))
     } else if tx.commands.is_empty() {
-        Ok(Some(2))
+        Ok(Some(ShapeFault::NoCommands))
     } else if tx.commands.len() > 1024 {
-        Ok(Some(3))
+        Ok(Some(ShapeFault::TooManyCommands))
     } else if tx.inputs.len() > 256 {
-        Ok(Some(4))
+        Ok(Some(ShapeFault::TooManyInputs))
     } else if repeats_id(alloc, tx)? {
-        Ok(Some(5))
+        Ok(Some(ShapeFault::RepeatedId))
     } else {
         Ok(None)
     }
@@ -71,26 +72,26 @@ fn is_poor(tx: &Transaction) -> bool
     (tx.budget as u128) < 1000 + 100 * tx.commands.len() as u128
 }
 
-/// The least of the faults 6 to 12.
+/// The first fault of its commands and versions, if there is one.
 #[tactic(auto, unfolding(crate::specs::Parts::command_fault))]
-fn command_fault(tx: &Transaction) -> Option<u8>
-    ensures { result ≡ command_fault tx.now }
+fn command_fault(tx: &Transaction) -> Option<ShapeFault>
+    ensures { option_map number_of_fault result ≡ command_fault tx.now }
 {
     let commands = tx.commands.as_slice();
     if names_no_input(tx, commands) {
-        Some(6)
+        Some(ShapeFault::NoInput)
     } else if names_late(commands) {
-        Some(7)
+        Some(ShapeFault::LateResult)
     } else if any_idle(commands) {
-        Some(8)
+        Some(ShapeFault::Idle)
     } else if any_no_native(commands) {
-        Some(9)
+        Some(ShapeFault::NoNative)
     } else if is_poor(tx) {
-        Some(10)
+        Some(ShapeFault::Poor)
     } else if has_bad_version(tx) {
-        Some(11)
+        Some(ShapeFault::BadVersion)
     } else if any_wide(commands) {
-        Some(12)
+        Some(ShapeFault::TooManyArguments)
     } else {
         None
     }
@@ -103,11 +104,11 @@ pub fn check_shape(alloc: Global, tx: &Transaction) -> Result<(), ShapeRefusal>
     ensures short { IfOk result (λ _. transaction.short tx.now) }
     ensures few { IfOk result (λ _. length tx.now.inputs ≤ 256) }
 {
-    if let Some(number) = list_fault(alloc, tx)? {
-        return Err(ShapeRefusal::Invalid(number));
+    if let Some(fault) = list_fault(alloc, tx)? {
+        return Err(ShapeRefusal::Invalid(fault.number()));
     }
     match command_fault(tx) {
-        Some(number) => Err(ShapeRefusal::Invalid(number)),
+        Some(fault) => Err(ShapeRefusal::Invalid(fault.number())),
         None => Ok(()),
     }
 }

@@ -12,6 +12,12 @@ use protocol_spec::StartRefusal;
 use quorum_core::{Committee, Sealer};
 use wire_bcs::{Seq, Unread};
 
+/// A record is bad because its bytes do not decode.
+const BROKEN: u8 = 1;
+
+/// A record is bad because no call would have appended it.
+const UNDUE: u8 = 2;
+
 /// Takes the record at a place.
 fn take_one<S: Sealer>(
     state: &mut State,
@@ -25,12 +31,12 @@ fn take_one<S: Sealer>(
 {
     let record = match decode_record(state.allocator(), bytes) {
         Ok(record) => record,
-        Err(Unread::Wire(_)) => return Err(StartRefusal::BadRecord { place, why: 1 }),
+        Err(Unread::Wire(_)) => return Err(StartRefusal::BadRecord { place, why: BROKEN }),
         Err(Unread::OutOfMemory) => return Err(StartRefusal::OutOfMemory),
     };
     match state.take(committee, sealer, record) {
         Ok(true) => Ok(()),
-        Ok(false) => Err(StartRefusal::BadRecord { place, why: 2 }),
+        Ok(false) => Err(StartRefusal::BadRecord { place, why: UNDUE }),
         Err(_) => Err(StartRefusal::OutOfMemory),
     }
 }
