@@ -1,8 +1,9 @@
 //! Natives on coins and caps.
 
-ghost use Rattle.std.specs.Prelude.{◌≡◌, ◌+◌, ◌<◌, ◌^◌, IfOk, SomeIff, sum_by};
+ghost use Rattle.std.specs.Prelude.{◌≡◌, ◌+◌, ◌<◌, ◌^◌, ◌∷◌, [], None, IfOk, SomeIff, sum_by};
 ghost use Rattle.std.specs.List.{list_any};
-ghost use Rattle.protocol_spec.specs.Block.Natives.{coin_mint, coin_burn, joined, amount_of, other_currency};
+ghost use Rattle.chain_types.specs.declared.objects.Content.TheVariants as contents;
+ghost use Rattle.protocol_spec.specs.Block.Natives.{coin_mint, coin_burn, gives, joined, amount_of, other_currency};
 ghost use Rattle.native_calls.specs.Sites.{site_of};
 
 use crate::contents::{amount_of, currency_of, holding, other_currency};
@@ -12,6 +13,17 @@ use chain_types::Content;
 use protocol_spec::{Gave, Item};
 use std::alloc::Global;
 use wire_bcs::OutOfMemory;
+
+/// Makes an empty coin of a currency.
+pub(crate) fn coin_zero(alloc: Global, place: &Place, currency: u64) -> Result<Gave, OutOfMemory>
+    ensures { IfOk result (λ gave. gave ≡ gives (site_of place.now) (contents.Coin currency 0 ∷ []) None) }
+{
+    let coin = Content::Coin {
+        currency,
+        balance: 0,
+    };
+    gives_new(alloc, place, coin, None)
+}
 
 /// Makes a coin of the cap's currency. Aborts with 1 if the supply would not be an amount.
 pub(crate) fn coin_mint(

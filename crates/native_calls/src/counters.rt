@@ -1,14 +1,31 @@
 //! Natives on counters and limits.
 
-ghost use Rattle.std.specs.Prelude.{◌≡◌, IfOk};
-ghost use Rattle.protocol_spec.specs.Block.Natives.{counter_add, counter_require, counter_add_limited};
+ghost use Rattle.std.specs.Prelude.{◌≡◌, ◌∷◌, [], None, IfOk};
+ghost use Rattle.chain_types.specs.declared.objects.Content.TheVariants as contents;
+ghost use Rattle.protocol_spec.specs.Block.Natives.{counter_add, counter_require, counter_add_limited, gives};
 ghost use Rattle.native_calls.specs.Sites.{site_of};
 
 use crate::contents::{amount_of, holding};
-use crate::gives::gives_nothing;
+use crate::gives::{gives_new, gives_nothing};
 use crate::place::Place;
+use chain_types::Content;
 use protocol_spec::{Gave, Item};
 use std::alloc::Global;
+use wire_bcs::OutOfMemory;
+
+/// Makes a counter of a value.
+pub(crate) fn counter_new(alloc: Global, place: &Place, value: u64) -> Result<Gave, OutOfMemory>
+    ensures { IfOk result (λ gave. gave ≡ gives (site_of place.now) (contents.Counter value ∷ []) None) }
+{
+    gives_new(alloc, place, Content::Counter { value }, None)
+}
+
+/// Makes a limit of a value.
+pub(crate) fn limit_new(alloc: Global, place: &Place, value: u64) -> Result<Gave, OutOfMemory>
+    ensures { IfOk result (λ gave. gave ≡ gives (site_of place.now) (contents.Limit value ∷ []) None) }
+{
+    gives_new(alloc, place, Content::Limit { value }, None)
+}
 
 /// Raises a counter. Aborts with 1 if the sum is not an amount.
 pub(crate) fn counter_add(alloc: Global, place: &Place, counter: &Item, amount: u64) -> Gave

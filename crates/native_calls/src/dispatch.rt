@@ -5,13 +5,12 @@ ghost use Rattle.protocol_spec.specs.Block.Natives.{native_gives, parameters_of}
 ghost use Rattle.native_calls.specs.Forms.{have_forms};
 
 use crate::args::{item_at, items_at, number_at};
-use crate::coins::{coin_burn, coin_join_all, coin_mint};
-use crate::counters::{counter_add, counter_add_limited, counter_require};
-use crate::gives::gives_new;
+use crate::coins::{coin_burn, coin_join_all, coin_mint, coin_zero};
+use crate::counters::{counter_add, counter_add_limited, counter_new, counter_require, limit_new};
 use crate::owners::{freeze, share};
 use crate::place::Place;
 use crate::vaults::{vault_deposit, vault_new, vault_withdraw};
-use chain_types::{Content, LAST_NATIVE};
+use chain_types::LAST_NATIVE;
 use digest_core::Digest;
 use protocol_spec::{Gave, Given};
 use std::alloc::Global;
@@ -42,22 +41,11 @@ pub fn call(
     };
     let args = args.as_slice();
     match native {
-        0 => {
-            let coin = Content::Coin {
-                currency: number_at(args, 0),
-                balance: 0,
-            };
-            gives_new(alloc, &place, coin, None)
-        }
+        0 => coin_zero(alloc, &place, number_at(args, 0)),
         1 => coin_mint(alloc, &place, &item_at(args, 0), number_at(args, 1)),
         2 => Ok(coin_burn(alloc, &place, &item_at(args, 0), &item_at(args, 1))),
         3 => coin_join_all(alloc, &place, items_at(args, 0)),
-        4 => {
-            let counter = Content::Counter {
-                value: number_at(args, 0),
-            };
-            gives_new(alloc, &place, counter, None)
-        }
+        4 => counter_new(alloc, &place, number_at(args, 0)),
         5 => Ok(counter_add(alloc, &place, &item_at(args, 0), number_at(args, 1))),
         6 => Ok(counter_require(
             alloc,
@@ -81,12 +69,7 @@ pub fn call(
         ),
         10 => Ok(share(alloc, &place, &item_at(args, 0))),
         11 => Ok(freeze(alloc, &place, &item_at(args, 0))),
-        12 => {
-            let limit = Content::Limit {
-                value: number_at(args, 0),
-            };
-            gives_new(alloc, &place, limit, None)
-        }
+        12 => limit_new(alloc, &place, number_at(args, 0)),
         13 => Ok(counter_add_limited(
             alloc,
             &place,
