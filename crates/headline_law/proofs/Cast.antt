@@ -1,39 +1,34 @@
 -- Each vote in a journal was cast after some prefix of the run.
 use Rattle.std.proofs.Common.{inl, inr, sym, subst, ap, ◌∙◌, append_assoc, append-nil}
 use Rattle.std.proofs.lemmas.Bool.{eqb-true}
-use Rattle.std.specs.Prelude.{◌≡◌, ◌⊎◌, ℕ, zero, suc, min, true, not, ◌==◌, List, [], ◌∷◌, ◌++◌, slice_get, Option, Some, None, option_map, option_and_then, Result, Ok, Err}
+use Rattle.std.specs.Prelude.{◌≡◌, ◌⊎◌, ℕ, true, not, ◌==◌, List, [], ◌∷◌, ◌++◌, slice_get, Option, Some, None, Result, Ok, Err}
 use Rattle.wire_bcs.specs.declared.fault.WireFault.{WireFault}
 use Rattle.digest_core.specs.declared.Digest.{Digest}
-use Rattle.chain_types.specs.Transactions as transactions
 use Rattle.chain_types.specs.declared.transactions.Transaction.{Transaction}
 use Rattle.chain_types.specs.declared.transactions.SignedTx.{SignedTx}
 use Rattle.chain_types.specs.Digests.{transaction_digest}
-use Rattle.chain_messages.specs.declared.messages.Certificate.{Certificate}
-use Rattle.chain_messages.specs.declared.messages.Entry.{Entry}
 use Rattle.journal_core.specs.declared.records.Record.{Record}
 use Rattle.journal_core.specs.declared.records.Record.TheVariants as record_as
 use Rattle.protocol_spec.specs.declared.refusals.VoteRefusal.{VoteRefusal}
 use Rattle.protocol_spec.specs.declared.refusals.VoteRefusal.TheVariants as no_vote
 use Rattle.schedule_text.specs.declared.words.Event.{Event}
-use Rattle.schedule_text.specs.declared.words.Event.TheVariants as event
-use Rattle.protocol_spec.proofs.ListLemmas.{each_join, each_at}
+use Rattle.protocol_spec.proofs.ListLemmas.{each_at}
 use Rattle.protocol_spec.specs.Chain.Words.{Has, Each, first_some, where_true, unless_refused, refused_or}
 use Rattle.protocol_spec.specs.Chain.Certificates.{Rules, read_signed}
 use Rattle.protocol_spec.specs.Member.Votes.{Cast, vote_origins}
 use Rattle.protocol_spec.specs.Member.Member.{Member, ballot, vote_for, state}
 use Rattle.protocol_spec.specs.Member.Calls.{Call, votes, new_vote_cases, voted_as, vote_again, vote_read, vote_stopped, vote_answer, unsealed_of, vote_record, due}
 use Rattle.world_spec.specs.Setting.{Setting}
-use Rattle.world_spec.specs.World.{Seat, Made, World, new_world, member_in, called_if, state_of, next_call_of, next_call, next_entry, numbered_call, member_at}
-use Rattle.world_spec.specs.Names.{made_named, cert_named}
-use Rattle.world_spec.specs.Step.{happens, entries_left, voted_on, happens_over}
+use Rattle.world_spec.specs.World.{Seat, World, new_world, member_in, numbered_call}
+use Rattle.world_spec.specs.Step.{happens}
 use Rattle.world_spec.specs.Run.{world_after}
-use Rattle.world_spec.specs.Assumptions.{send_call, call_list, see_calls, ack_call, calls_of, signed_read}
-use Rattle.safety_law.proofs.InWorld.{each-any, kept-line, new-seats}
+use Rattle.world_spec.specs.Assumptions.{signed_read}
+use Rattle.safety_law.proofs.InWorld.{each-any, new-seats}
 use Rattle.safety_law.proofs.Apart.{due-free}
 use Rattle.safety_law.proofs.Once.{has-push}
 use Rattle.safety_law.proofs.Grown.{world-append}
 use Rattle.safety_law.proofs.Appends.{a_vote, appended_as, appended_by, due-appends}
-use Rattle.safety_law.proofs.OneCall.{one-call}
+use Rattle.safety_law.proofs.OneCall.{one-line}
 use Rattle.headline_law.specs.Cast.{WasCast}
 
 -- ---- the origins of a new vote
@@ -72,30 +67,10 @@ module _ (r : Rules) (m : Member) (tx : Transaction) (origins : List (Option Dig
   unfolding due vote_answer
   due-names bytes e = read-names (read_signed bytes) (vote_stopped m) e
 
--- ---- the calls of a line that is not a vote
+-- ---- calls that are not a vote
 
 abbrev NoVote : Call → Type 0
 NoVote call = appended_by call ≡ Some a_vote → ⊥
-
-no-vote-next : (number : ℕ) (e : Option Entry) → Each NoVote (call_list (option_map (numbered_call number) e))
-no-vote-next number None = tt
-no-vote-next number (Some e) = (λ q. absurd (cc), tt)
-
-no-vote-at : (s : Setting) (w : World) (seat : Option Seat) → Each NoVote (call_list (option_and_then (next_call_of w) (option_and_then (state_of s) seat)))
-no-vote-at s w None = tt
-no-vote-at s w (Some seat) = no-vote-next (member_in s seat).sequence.number (next_entry w (member_in s seat))
-
-no-vote-sees : (s : Setting) (n : ℕ) (w : World) (m : ℕ) → Each NoVote (see_calls s n w m)
-no-vote-sees s zero w m = tt
-no-vote-sees s (suc n) w m = each_join NoVote (call_list (next_call s w m)) (see_calls s n (called_if s w m (next_call s w m)) m) (no-vote-at s w (slice_get w.seats m)) (no-vote-sees s n (called_if s w m (next_call s w m)) m)
-
-no-vote-sent : (c : Option Certificate) → Each NoVote (send_call c)
-no-vote-sent None = tt
-no-vote-sent (Some c) = (λ q. absurd (cc), tt)
-
-no-vote-acked : (t : Option Made) → Each NoVote (ack_call t)
-no-vote-acked None = tt
-no-vote-acked (Some t) = (λ q. absurd (cc), tt)
 
 -- ---- line by line
 
@@ -146,46 +121,12 @@ module _ (s : Setting) where
             named = due-names s.rules (member_in s seat) tx o bytes now;
           }
 
-  module _ (front : List Event) where
-    abbrev w : World
-    w = world_after s front
+  here-cast : (front : List Event) (call : Call) (m : ℕ) (seat : Seat) → slice_get (world_after s front).seats m ≡ Some seat → (x : Record) → due s.rules (member_in s seat) call ≡ Some x → CastIn front seat.records → CastIn front (seat.records ++ x ∷ [])
+  here-cast front (votes bytes) m seat at x d cast = vote-kept front bytes m seat at x d cast
+  here-cast front call m seat at x d cast = other-kept front seat.records call x (λ q. absurd (cc)) d cast
 
-    other-line : (e : Event) → Each NoVote (calls_of s w e) → AllCast front w.seats → AllCast front (happens s w e).seats
-    other-line e never all = kept-line s NoVote (CastIn front) (other-kept front) w e never all
-
-    called-line : (m : ℕ) (t : Option Made) → AllCast front w.seats → AllCast front (voted_on s w m t).seats
-    called-line m None all = all
-    called-line m (Some t) all = one-call s (CastIn front) w (votes (transactions.signed.spell t.signed)) (vote-kept front (transactions.signed.spell t.signed)) m all
-
-    vote-line : (m : ℕ) (tx : List ℕ) → AllCast front w.seats → AllCast front (happens s w (event.Vote m tx)).seats
-    unfolding happens_over
-    vote-line m tx all = called-line m (made_named w tx) all
-
-    raw-line : (m : ℕ) (bytes : List ℕ) → AllCast front w.seats → AllCast front (happens s w (event.RawVote m bytes)).seats
-    unfolding happens_over
-    raw-line m bytes all = one-call s (CastIn front) w (votes bytes) (vote-kept front bytes) m all
-
-    line-cast : (e : Event) → AllCast front w.seats → AllCast front (happens s w e).seats
-    line-cast (event.Tx name sender spoiled epoch gas budget inputs commands) all = other-line (event.Tx name sender spoiled epoch gas budget inputs commands) tt all
-    line-cast (event.Vote m tx) all = vote-line m tx all
-    line-cast (event.Fvote m tx origins) all = other-line (event.Fvote m tx origins) tt all
-    line-cast (event.Cert tx members) all = other-line (event.Cert tx members) tt all
-    line-cast (event.Send m tx) all = other-line (event.Send m tx) (no-vote-sent (cert_named w tx)) all
-    line-cast (event.Order tx) all = other-line (event.Order tx) tt all
-    line-cast (event.OrderEnd m) all = other-line (event.OrderEnd m) tt all
-    line-cast event.OrderCommit all = other-line event.OrderCommit tt all
-    line-cast (event.See m entries) all = other-line (event.See m entries) (no-vote-sees s (min entries (entries_left w (member_at s w m))) w m) all
-    line-cast (event.Run m workers) all = other-line (event.Run m workers) (λ q. absurd (cc), tt) all
-    line-cast (event.Close m) all = other-line (event.Close m) (λ q. absurd (cc), tt) all
-    line-cast (event.End m) all = other-line (event.End m) (λ q. absurd (cc), tt) all
-    line-cast (event.Turn m) all = other-line (event.Turn m) (λ q. absurd (cc), tt) all
-    line-cast (event.Show m) all = other-line (event.Show m) tt all
-    line-cast (event.Stop m kept) all = other-line (event.Stop m kept) tt all
-    line-cast (event.Restart m) all = other-line (event.Restart m) tt all
-    line-cast (event.RawVote m bytes) all = raw-line m bytes all
-    line-cast (event.RawHold m bytes) all = other-line (event.RawHold m bytes) (λ q. absurd (cc), tt) all
-    line-cast (event.Ack m tx spoiled) all = other-line (event.Ack m tx spoiled) (no-vote-acked (made_named w tx)) all
-    line-cast (event.Final tx members) all = other-line (event.Final tx members) tt all
+  line-cast : (front : List Event) (e : Event) → AllCast front (world_after s front).seats → AllCast front (happens s (world_after s front) e).seats
+  line-cast front e all = one-line s (CastIn front) (world_after s front) (here-cast front) (λ number n records x d cast. other-kept front records (numbered_call number n) x (λ q. absurd (cc)) d cast) e all
 
   all-more : (front : List Event) (e : Event) (seats : List Seat) → AllCast front seats → AllCast (front ++ e ∷ []) seats
   all-more front e [] all = tt

@@ -24,7 +24,8 @@ use Rattle.protocol_spec.specs.Member.Calls.{Call, votes, holds, sees, runs, clo
 use Rattle.world_spec.specs.Setting.{Name, Setting}
 use Rattle.world_spec.specs.World.{Made, Reached, Seat, World, finds_down, stops, answers, behind, called_if, called_in, called_seat, is_honest, member_at, member_in, next_call, next_call_of, next_entry, numbered_call, reached, reached_at, reached_up, sees_on, state_of, called_over, reached_over, is_seat_up, by_records}
 use Rattle.world_spec.specs.Names.{cert_named, made_named, shown_order}
-use Rattle.world_spec.specs.Step.{entries_left, happens, sent, happens_over}
+use Rattle.world_spec.specs.Moves.{held_call}
+use Rattle.world_spec.specs.Step.{entries_left, happens, happens_over}
 use Rattle.world_spec.specs.Report.{Lines, ack_lines, ack_reached, and_lines, call_lines, cert_lines, close_reached, end_reached, entries_lines, entry_reached, final_lines, fvote_lines, hold_reached, hold_said, lines_of, none_taken, object_line, run_reached, see_halted, see_up, send_said, show_up, turn_reached, vote_lines, vote_reached, vote_said, lines_over}
 use Rattle.safety_law.proofs.Apart.{state-push}
 use Rattle.headline_law.specs.Alarms.{halts_ack, halts_close, halts_end, halts_send, halts_vote}
@@ -278,7 +279,7 @@ module _ (s : Setting) where
         go (inl calm) = calm
         go (inr it) = not-both (called_in s w m (holds bytes)) m later it
 
-    send-here : (m : ℕ) (c : Option Certificate) → NoneForked (sent s w m c) → halts_send (send_said (by_records s) s w m c) ≡ false
+    send-here : (m : ℕ) (c : Option Certificate) → NoneForked (called_if s w m (option_map held_call c)) → halts_send (send_said (by_records s) s w m c) ≡ false
     send-here m None later = refl
     send-here m (Some c) later = hold-here m (messages.certificate.spell c) later
 
@@ -355,23 +356,18 @@ module _ (s : Setting) where
     -- no line says so if no member is forked before it or after it, and no run leaves anything
     pub line-calm : (e : Event) → NoneForked (happens s w e) → ((m : ℕ) (seat : Seat) → slice_get w.seats m ≡ Some seat → (ran : Ran) → run_answer s.rules (member_in s seat) ≡ Ok ran → ran.left ≡ []) → Each IsCalmLine (lines_of s w e)
     unfolding lines_over happens_over
-    line-calm (event.Tx name sender spoiled epoch gas budget inputs commands) later leaves = (refl, tt)
     line-calm (event.Vote m tx) later leaves = vote-line m tx (made_named w tx)
     line-calm (event.Fvote m tx origins) later leaves = fvote-line m tx origins (made_named w tx)
     line-calm (event.Cert tx members) later leaves = cert-line tx members (made_named w tx)
     line-calm (event.Send m tx) later leaves = (send-here m (cert_named w tx) later, tt)
-    line-calm (event.Order tx) later leaves = (refl, tt)
-    line-calm (event.OrderEnd m) later leaves = (refl, tt)
-    line-calm event.OrderCommit later leaves = (refl, tt)
     line-calm (event.See m entries) later leaves = see-here m entries (is_seat_up (slice_get w.seats m)) (member_at s w m) refl later
     line-calm (event.Run m workers) later leaves = run-here m (leaves m)
     line-calm (event.Close m) later leaves = (close-here m, tt)
     line-calm (event.End m) later leaves = (end-here m, tt)
     line-calm (event.Turn m) later leaves = turn-here m
     line-calm (event.Show m) later leaves = show-here m (is_seat_up (slice_get w.seats m)) (member_at s w m)
-    line-calm (event.Stop m kept) later leaves = (refl, tt)
-    line-calm (event.Restart m) later leaves = (refl, tt)
     line-calm (event.RawVote m bytes) later leaves = (vote-said m bytes, tt)
     line-calm (event.RawHold m bytes) later leaves = (hold-here m bytes later, tt)
     line-calm (event.Ack m tx spoiled) later leaves = ack-line m tx (made_named w tx)
     line-calm (event.Final tx members) later leaves = final-line tx members (made_named w tx)
+    line-calm e later leaves = (refl, tt)

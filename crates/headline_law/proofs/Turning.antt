@@ -1,33 +1,29 @@
 -- The last moment of a member in an epoch: where it turns out of it, or the present one. All states in which it was in
 -- that epoch come before.
 use Rattle.std.proofs.Common.{inl, inr, refl, sym, subst, ap, ◌∙◌, arith, append_assoc, append-nil}
-use Rattle.std.specs.Prelude.{◌≡◌, ◌⊎◌, ◌<◌, ◌≤◌, ◌+◌, ℕ, min, List, [], ◌∷◌, ◌++◌, slice_get, Some}
+use Rattle.std.specs.Prelude.{◌≡◌, ◌⊎◌, ◌<◌, ◌≤◌, ◌+◌, ℕ, List, [], ◌∷◌, ◌++◌, slice_get, Some}
 use Rattle.checkpoint_core.specs.declared.checkpoints.Checkpoint.{Checkpoint}
 use Rattle.journal_core.specs.declared.records.Record.{Record}
 use Rattle.journal_core.specs.declared.records.Record.TheVariants as record_as
 use Rattle.schedule_text.specs.declared.words.Event.{Event}
-use Rattle.schedule_text.specs.declared.words.Event.TheVariants as event
 use Rattle.protocol_spec.proofs.ListLemmas.{each_at, front_then}
 use Rattle.protocol_spec.specs.Chain.Words.{Has, Each, IsFront}
 use Rattle.protocol_spec.specs.Member.Member.{Member, after, built, state}
 use Rattle.protocol_spec.specs.Member.Calls.{Call, turns, due}
 use Rattle.world_spec.specs.Setting.{Setting}
-use Rattle.world_spec.specs.World.{Seat, World, new_world, member_in, member_at}
-use Rattle.world_spec.specs.Names.{made_named, cert_named}
-use Rattle.world_spec.specs.Step.{happens, entries_left, happens_over}
+use Rattle.world_spec.specs.World.{Seat, World, new_world, member_in, numbered_call}
+use Rattle.world_spec.specs.Step.{happens}
 use Rattle.world_spec.specs.Run.{world_after}
-use Rattle.world_spec.specs.Assumptions.{calls_of}
-use Rattle.safety_law.proofs.InWorld.{kept-line, new-seats}
+use Rattle.safety_law.proofs.InWorld.{new-seats}
 use Rattle.safety_law.proofs.Apart.{state-push}
 use Rattle.safety_law.proofs.Grown.{world-append}
 use Rattle.safety_law.proofs.Appends.{a_turn, appended_as, appended_by, due-appends}
 use Rattle.safety_law.proofs.Prefixes.{either-front}
-use Rattle.safety_law.proofs.OneCall.{one-call}
-use Rattle.safety_law.proofs.Opened.{no-turn-sees, no-turn-voted, no-turn-sent, no-turn-acked}
+use Rattle.safety_law.proofs.OneCall.{one-line}
 use Rattle.safety_law.proofs.Turned.{CanTurn, turn-due}
 use Rattle.headline_law.proofs.Along.{IsBeyond, IsTurn, built-beyond, cancel, epoch-grows, first-beyond, more-beyond, past-built, past-grows, push-split, same-or-less, turn-between, turn-epoch, turn-past}
 
--- ---- the calls of a line that is not a turn
+-- ---- calls that are not a turn
 
 abbrev NoTurn : Call → Type 0
 NoTurn call = appended_by call ≡ Some a_turn → ⊥
@@ -79,38 +75,13 @@ module _ (s : Setting) where
       go (inl p) = record { front = front; back = []; whole = append-nil front; member = m; seat = seat; there = there; same = sym p.0; can = (turn-due s.rules (member_in s seat) x d).1 }
       go (inr q) = all before q.0 q.1
 
-  module _ (front : List Event) where
-    abbrev w : World
-    w = world_after s front
+  -- at these seats a turn is where a member turned, and no other call is a turn
+  here-turn : (front : List Event) (call : Call) (m : ℕ) (seat : Seat) → slice_get (world_after s front).seats m ≡ Some seat → (x : Record) → due s.rules (member_in s seat) call ≡ Some x → TurnsIn front seat.records → TurnsIn front (seat.records ++ x ∷ [])
+  here-turn front turns m seat there x d all = turn-kept front m seat there x d all
+  here-turn front call m seat there x d all = other-kept front seat.records call x (λ q. absurd (cc)) d all
 
-    other-line : (e : Event) → Each NoTurn (calls_of s w e) → AllTurn front w.seats → AllTurn front (happens s w e).seats
-    other-line e never all = kept-line s NoTurn (TurnsIn front) (other-kept front) w e never all
-
-    turn-line : (m : ℕ) → AllTurn front w.seats → AllTurn front (happens s w (event.Turn m)).seats
-    unfolding happens_over
-    turn-line m all = one-call s (TurnsIn front) w turns (turn-kept front) m all
-
-    line-turn : (e : Event) → AllTurn front w.seats → AllTurn front (happens s w e).seats
-    line-turn (event.Tx name sender spoiled epoch gas budget inputs commands) all = other-line (event.Tx name sender spoiled epoch gas budget inputs commands) tt all
-    line-turn (event.Vote m tx) all = other-line (event.Vote m tx) (no-turn-voted (made_named w tx)) all
-    line-turn (event.Fvote m tx origins) all = other-line (event.Fvote m tx origins) tt all
-    line-turn (event.Cert tx members) all = other-line (event.Cert tx members) tt all
-    line-turn (event.Send m tx) all = other-line (event.Send m tx) (no-turn-sent (cert_named w tx)) all
-    line-turn (event.Order tx) all = other-line (event.Order tx) tt all
-    line-turn (event.OrderEnd m) all = other-line (event.OrderEnd m) tt all
-    line-turn event.OrderCommit all = other-line event.OrderCommit tt all
-    line-turn (event.See m entries) all = other-line (event.See m entries) (no-turn-sees s (min entries (entries_left w (member_at s w m))) w m) all
-    line-turn (event.Run m workers) all = other-line (event.Run m workers) (λ q. absurd (cc), tt) all
-    line-turn (event.Close m) all = other-line (event.Close m) (λ q. absurd (cc), tt) all
-    line-turn (event.End m) all = other-line (event.End m) (λ q. absurd (cc), tt) all
-    line-turn (event.Turn m) all = turn-line m all
-    line-turn (event.Show m) all = other-line (event.Show m) tt all
-    line-turn (event.Stop m kept) all = other-line (event.Stop m kept) tt all
-    line-turn (event.Restart m) all = other-line (event.Restart m) tt all
-    line-turn (event.RawVote m bytes) all = other-line (event.RawVote m bytes) (λ q. absurd (cc), tt) all
-    line-turn (event.RawHold m bytes) all = other-line (event.RawHold m bytes) (λ q. absurd (cc), tt) all
-    line-turn (event.Ack m tx spoiled) all = other-line (event.Ack m tx spoiled) (no-turn-acked (made_named w tx)) all
-    line-turn (event.Final tx members) all = other-line (event.Final tx members) tt all
+  line-turn : (front : List Event) (e : Event) → AllTurn front (world_after s front).seats → AllTurn front (happens s (world_after s front) e).seats
+  line-turn front e all = one-line s (TurnsIn front) (world_after s front) (here-turn front) (λ number n records x d p. other-kept front records (numbered_call number n) x (λ q. absurd (cc)) d p) e all
 
   all-more : (front : List Event) (e : Event) (seats : List Seat) → AllTurn front seats → AllTurn (front ++ e ∷ []) seats
   all-more front e [] all = tt
