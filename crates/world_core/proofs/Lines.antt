@@ -15,7 +15,8 @@ use Rattle.world_spec.specs.World.{Made}
 use Rattle.journal_core.specs.declared.records.Record.{Record}
 use Rattle.world_spec.specs.Posts.{AddsAll, AddsFront, AddsLeft, MayAddLeft, list_of, reached_in, record_left}
 use Rattle.world_spec.specs.Scene.{Scene}
-use Rattle.world_spec.specs.SceneSteps.{MayAddLine, asked, asks, called_scene, held_call, hold_text_in, records_left, send_text_in, signed_call, vote_lines_in, vote_text_in, worked}
+use Rattle.world_spec.specs.Moves.{held_call, signed_call}
+use Rattle.world_spec.specs.SceneSteps.{MayAddLine, asked, asks, called_scene, hold_text_in, records_left, send_text_in, vote_lines_in, vote_text_in, worked}
 use Rattle.world_core.specs.Replies.{Leaves}
 use Rattle.world_core.specs.Kept.{LeavesAs}
 use Rattle.world_core.specs.Texts.{spelled_cert, spelled_tx}

@@ -8,18 +8,19 @@ use Rattle.outside.specs.Lists.{Journals}
 use Rattle.protocol_spec.proofs.ListLemmas.{front_then, front_whole}
 use Rattle.protocol_spec.specs.Chain.Certificates.{Rules}
 use Rattle.protocol_spec.specs.Chain.Words.{IsFront}
-use Rattle.protocol_spec.specs.Member.Calls.{Call, acks, closes, ends, holds, runs, sees, turns, votes}
+use Rattle.protocol_spec.specs.Member.Calls.{Call, acks, runs, sees}
 use Rattle.report_text.specs.declared.lines.Line.{Line}
 use Rattle.schedule_text.specs.declared.words.Event.{Event}
 use Rattle.schedule_text.specs.declared.words.Event.TheVariants as event
 use Rattle.world_spec.specs.Setting.{Name, Setting, Trust}
 use Rattle.world_spec.specs.World.{Made, Said, World, honest_in, is_honest, said_by, seat_honest}
 use Rattle.world_spec.specs.Names.{cert_named, made_named}
+use Rattle.world_spec.specs.Moves.{Move, requests, delivers, claims, submits, submits_end, claims_vote, claims_ack, cert_submitted, move_of}
 use Rattle.world_spec.specs.Step.{appended_entry, end_in, end_ordered, fvote_origins, fvoted, has_ended, honest_end, last_said, ordered, ordered_end, risen_if, says, sealed_end}
 use Rattle.world_spec.specs.Terms.{Terms, rules_for}
 use Rattle.world_spec.specs.Posts.{reached_in, stated_in}
 use Rattle.world_spec.specs.Scene.{Scene, bare_setting, bare_world, rules_in}
-use Rattle.world_spec.specs.SceneSteps.{Work, acked_in, asks, called_if, called_scene, false_ack_in, hands, idle, next_on, sees_to, steps_to, with_order, work_of, worked}
+use Rattle.world_spec.specs.SceneSteps.{Work, acked_in, asks, called_if, called_scene, false_ack_in, hands, idle, next_on, sees_to, steps_by, steps_to, with_order, work_by, worked}
 use Rattle.world_lines.specs.Pushed.{GrowsToward}
 use Rattle.world_lines.proofs.Growing.{all_added}
 use Rattle.world_core.specs.Sees.{HasSeen}
@@ -107,28 +108,18 @@ ack_front r sc m spoiled (Some t) = go (is_honest (bare_world sc) m)
 
 -- ---- a line
 
+move_front : (trust : Trust) (sc : Scene) (mv : Move) → IsFront sc.said (steps_by trust sc mv).said
+move_front trust sc (requests m ask) = work_front (rules_in trust.accepts sc) sc (work_by sc (requests m ask))
+move_front trust sc (delivers m entries) = work_front (rules_in trust.accepts sc) sc (work_by sc (delivers m entries))
+move_front trust sc (claims m tx (claims_vote origins)) = false_vote_front (bare_world sc) m origins (made_named (bare_world sc) tx)
+move_front trust sc (claims m tx (claims_ack spoiled)) = ack_front (rules_in trust.accepts sc) sc m spoiled (made_named (bare_world sc) tx)
+move_front trust sc (submits (cert_submitted tx)) = order_front (bare_world sc) (cert_named (bare_world sc) tx)
+move_front trust sc (submits_end m) = end_front (bare_setting trust sc) (bare_world sc) m
+move_front trust sc mv = front_whole sc.said
+
 pub step_front : (trust : Trust) (sc : Scene) (e : Event) → IsFront sc.said (steps_to trust sc e).said
 unfolding steps_to
-step_front trust sc (event.Tx name sender spoiled epoch gas budget inputs commands) = front_whole sc.said
-step_front trust sc (event.Vote m tx) = work_front (rules_in trust.accepts sc) sc (work_of sc (event.Vote m tx))
-step_front trust sc (event.Fvote m tx origins) = false_vote_front (bare_world sc) m origins (made_named (bare_world sc) tx)
-step_front trust sc (event.Cert tx members) = front_whole sc.said
-step_front trust sc (event.Send m tx) = work_front (rules_in trust.accepts sc) sc (work_of sc (event.Send m tx))
-step_front trust sc (event.Order tx) = order_front (bare_world sc) (cert_named (bare_world sc) tx)
-step_front trust sc (event.OrderEnd m) = end_front (bare_setting trust sc) (bare_world sc) m
-step_front trust sc event.OrderCommit = front_whole sc.said
-step_front trust sc (event.See m entries) = work_front (rules_in trust.accepts sc) sc (work_of sc (event.See m entries))
-step_front trust sc (event.Run m workers) = call_front (rules_in trust.accepts sc) sc m runs
-step_front trust sc (event.Close m) = call_front (rules_in trust.accepts sc) sc m closes
-step_front trust sc (event.End m) = call_front (rules_in trust.accepts sc) sc m ends
-step_front trust sc (event.Turn m) = call_front (rules_in trust.accepts sc) sc m turns
-step_front trust sc (event.Show m) = front_whole sc.said
-step_front trust sc (event.Stop m kept) = front_whole sc.said
-step_front trust sc (event.Restart m) = front_whole sc.said
-step_front trust sc (event.RawVote m bytes) = call_front (rules_in trust.accepts sc) sc m (votes bytes)
-step_front trust sc (event.RawHold m bytes) = call_front (rules_in trust.accepts sc) sc m (holds bytes)
-step_front trust sc (event.Ack m tx spoiled) = ack_front (rules_in trust.accepts sc) sc m spoiled (made_named (bare_world sc) tx)
-step_front trust sc (event.Final tx members) = front_whole sc.said
+step_front trust sc e = move_front trust sc (move_of e)
 
 module _ (trust : Trust) (sc : Scene) (e : Event) (said : List Said) where
   -- it added nothing
