@@ -133,26 +133,9 @@ sums-shown : (trust : Trust) (s : Setting) (w : World) (sc : Scene) (m : Member)
 sums-shown trust s w sc m shows f is = ap (λ (x : Scene). told.sums_at (slice_get x.posts 0)) shows.scene ∙ sums-first s w.seats m f is
 
 reads-none : (e : Event) → IsQuiet e → is_restart e ≡ false
-reads-none (event.Tx name sender spoiled epoch gas budget inputs commands) quiet = refl
-reads-none (event.Vote m tx) quiet = refl
-reads-none (event.Fvote m tx origins) quiet = refl
-reads-none (event.Cert tx members) quiet = refl
-reads-none (event.Send m tx) quiet = refl
-reads-none (event.Order tx) quiet = refl
-reads-none (event.OrderEnd m) quiet = refl
-reads-none event.OrderCommit quiet = refl
-reads-none (event.See m entries) quiet = refl
-reads-none (event.Run m workers) quiet = refl
-reads-none (event.Close m) quiet = refl
-reads-none (event.End m) quiet = refl
-reads-none (event.Turn m) quiet = refl
-reads-none (event.Show m) quiet = refl
 reads-none (event.Stop m kept) quiet = absurd quiet
 reads-none (event.Restart m) quiet = absurd quiet
-reads-none (event.RawVote m bytes) quiet = refl
-reads-none (event.RawHold m bytes) quiet = refl
-reads-none (event.Ack m tx spoiled) quiet = refl
-reads-none (event.Final tx members) quiet = refl
+reads-none e quiet = refl
 
 read-none : (events : List Event) → Each IsQuiet events → Each ReadsNone events
 read-none [] quiet = tt

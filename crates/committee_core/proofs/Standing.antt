@@ -3,39 +3,26 @@ use Rattle.std.proofs.Common.{◌≡◌, ℕ, zero, suc, min, Bool, true, false,
 use Rattle.journal_core.specs.declared.records.Record.{Record}
 use Rattle.chain_messages.specs.declared.messages.Certificate.{Certificate}
 use Rattle.schedule_text.specs.declared.words.Event.{Event}
-use Rattle.schedule_text.specs.declared.words.Event.TheVariants as event
 use Rattle.protocol_spec.specs.Chain.Collecting.{Collected, lacks, short, differ, whole}
 use Rattle.protocol_spec.specs.Chain.Words.{Each}
-use Rattle.protocol_spec.specs.Member.Calls.{Call, votes, holds, runs, closes, ends, turns, acks, due}
+use Rattle.protocol_spec.specs.Member.Calls.{Call, acks, due}
 use Rattle.world_spec.specs.Setting.{Name, Setting}
-use Rattle.world_spec.specs.World.{Made, Seat, World, behind, called_if, called_in, called_seat, finds_down, is_honest, member_at, member_in, new_seat, next_call, reached_up, sees_on, called_over}
+use Rattle.world_spec.specs.World.{Made, Seat, World, behind, by_records, called_if, called_in, called_seat, finds_down, is_honest, member_at, member_in, new_seat, next_call, reached_up, sees_on, called_over}
 use Rattle.world_spec.specs.Names.{made_named, cert_named}
 use Rattle.world_spec.specs.Making.{made_over}
-use Rattle.world_spec.specs.Step.{acked, end_in, end_ordered, entries_left, formed, formed_as, fvoted, happens, honest_end, last_said, ordered, ordered_end, risen_if, sent, voted_on, votes_collected, happens_over}
+use Rattle.world_spec.specs.Moves.{Move, looks_on, makes_tx, requests, delivers, claims, certifies, submits, submits_end, arms_stop, starts_again, claims_vote, claims_ack, cert_submitted, mark_submitted, move_of, requested}
+use Rattle.world_spec.specs.Step.{acked, end_in, end_ordered, entries_left, formed, formed_as, fvoted, happens, honest_end, last_said, moved, ordered, ordered_end, risen_if, votes_collected, happens_over}
 use Rattle.world_spec.specs.Run.{run}
 
--- the line neither stops nor starts a member
+-- the move neither stops nor starts a member
+abbrev pub IsQuietMove : Move → Type 0
+IsQuietMove (arms_stop m kept) = ⊥
+IsQuietMove (starts_again m) = ⊥
+IsQuietMove mv = Unit {0}
+
+-- nor does the line
 abbrev pub IsQuiet : Event → Type 0
-IsQuiet (event.Tx name sender spoiled epoch gas budget inputs commands) = Unit {0}
-IsQuiet (event.Vote m tx) = Unit {0}
-IsQuiet (event.Fvote m tx origins) = Unit {0}
-IsQuiet (event.Cert tx members) = Unit {0}
-IsQuiet (event.Send m tx) = Unit {0}
-IsQuiet (event.Order tx) = Unit {0}
-IsQuiet (event.OrderEnd m) = Unit {0}
-IsQuiet event.OrderCommit = Unit {0}
-IsQuiet (event.See m entries) = Unit {0}
-IsQuiet (event.Run m workers) = Unit {0}
-IsQuiet (event.Close m) = Unit {0}
-IsQuiet (event.End m) = Unit {0}
-IsQuiet (event.Turn m) = Unit {0}
-IsQuiet (event.Show m) = Unit {0}
-IsQuiet (event.Stop m kept) = ⊥
-IsQuiet (event.Restart m) = ⊥
-IsQuiet (event.RawVote m bytes) = Unit {0}
-IsQuiet (event.RawHold m bytes) = Unit {0}
-IsQuiet (event.Ack m tx spoiled) = Unit {0}
-IsQuiet (event.Final tx members) = Unit {0}
+IsQuiet e = IsQuietMove (move_of e)
 
 -- the member is honest as this says, up, and no stop is armed
 abbrev pub IsStanding : Bool → Seat → Type 0
@@ -100,10 +87,6 @@ module _ (s : Setting) (flags : List Bool) where
   step-sees zero w m q = q
   step-sees (suc n) w m q = step-sees n (called_if s w m (next_call s w m)) m (step-called_if w m (next_call s w m) q)
 
-  step-voted : (w : World) (m : ℕ) (t : Option Made) → Stand w → Stand (voted_on s w m t)
-  step-voted w m None q = q
-  step-voted w m (Some t) q = step-called w m _ q
-
   step-if : (b : Bool) (v w : World) → Stand v → Stand w → Stand (cond b v w)
   step-if true v w one other = one
   step-if false v w one other = other
@@ -121,10 +104,6 @@ module _ (s : Setting) (flags : List Bool) where
   step-formed : (w : World) (ms : List ℕ) (t : Option Made) → Stand w → Stand (formed s w ms t)
   step-formed w ms None q = q
   step-formed w ms (Some t) q = step-formed_as w t ms (votes_collected s w t ms) q
-
-  step-sent : (w : World) (m : ℕ) (c : Option Certificate) → Stand w → Stand (sent s w m c)
-  step-sent w m None q = q
-  step-sent w m (Some c) q = step-called w m _ q
 
   step-ordered : (w : World) (c : Option Certificate) → Stand w → Stand (ordered w c)
   step-ordered w None q = q
@@ -148,28 +127,24 @@ module _ (s : Setting) (flags : List Bool) where
   step-acked w m spoiled None q = q
   step-acked w m spoiled (Some t) q = step-if (is_honest w m) _ _ (step-called w m (acks t.digest) q) q
 
+  step-move : (w : World) (mv : Move) → IsQuietMove mv → Stand w → Stand (moved (by_records s) s w mv)
+  unfolding made_over
+  step-move w looks_on quiet q = q
+  step-move w (makes_tx l) quiet q = q
+  step-move w (requests m ask) quiet q = step-called_if w m (requested w ask) q
+  step-move w (delivers m entries) quiet q = step-sees (min entries (entries_left w (member_at s w m))) w m q
+  step-move w (claims m tx (claims_vote origins)) quiet q = step-fvoted w m origins (made_named w tx) q
+  step-move w (claims m tx (claims_ack spoiled)) quiet q = step-acked w m spoiled (made_named w tx) q
+  step-move w (certifies tx members) quiet q = step-formed w members (made_named w tx) q
+  step-move w (submits (cert_submitted tx)) quiet q = step-ordered w (cert_named w tx) q
+  step-move w (submits mark_submitted) quiet q = q
+  step-move w (submits_end m) quiet q = step-end_ordered w m q
+  step-move w (arms_stop m kept) quiet q = absurd quiet
+  step-move w (starts_again m) quiet q = absurd quiet
+
   step-happens : (w : World) (e : Event) → IsQuiet e → Stand w → Stand (happens s w e)
-  unfolding happens_over made_over
-  step-happens w (event.Tx name sender spoiled epoch gas budget inputs commands) quiet q = q
-  step-happens w (event.Vote m tx) quiet q = step-voted w m (made_named w tx) q
-  step-happens w (event.Fvote m tx origins) quiet q = step-fvoted w m origins (made_named w tx) q
-  step-happens w (event.Cert tx members) quiet q = step-formed w members (made_named w tx) q
-  step-happens w (event.Send m tx) quiet q = step-sent w m (cert_named w tx) q
-  step-happens w (event.Order tx) quiet q = step-ordered w (cert_named w tx) q
-  step-happens w (event.OrderEnd m) quiet q = step-end_ordered w m q
-  step-happens w event.OrderCommit quiet q = q
-  step-happens w (event.See m entries) quiet q = step-sees (min entries (entries_left w (member_at s w m))) w m q
-  step-happens w (event.Run m workers) quiet q = step-called w m runs q
-  step-happens w (event.Close m) quiet q = step-called w m closes q
-  step-happens w (event.End m) quiet q = step-called w m ends q
-  step-happens w (event.Turn m) quiet q = step-called w m turns q
-  step-happens w (event.Show m) quiet q = q
-  step-happens w (event.Stop m kept) quiet q = absurd quiet
-  step-happens w (event.Restart m) quiet q = absurd quiet
-  step-happens w (event.RawVote m bytes) quiet q = step-called w m (votes bytes) q
-  step-happens w (event.RawHold m bytes) quiet q = step-called w m (holds bytes) q
-  step-happens w (event.Ack m tx spoiled) quiet q = step-acked w m spoiled (made_named w tx) q
-  step-happens w (event.Final tx members) quiet q = q
+  unfolding happens_over
+  step-happens w e quiet q = step-move w (move_of e) quiet q
 
   -- each member stands after lines that stop and start none
   pub run-standing : (events : List Event) (w : World) → Each IsQuiet events → Stand w → Stand (run s events w)

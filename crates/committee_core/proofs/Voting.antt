@@ -93,25 +93,7 @@ never_bad r opening lists place is bad =
 same-seats : (s : Setting) (w : World) (e : Event) → is_tx e ≡ true → (happens s w e).seats ≡ w.seats
 unfolding happens_over made_over
 same-seats s w (event.Tx name sender spoiled epoch gas budget inputs commands) is = refl
-same-seats s w (event.Vote m tx) is = absurd (cc)
-same-seats s w (event.Fvote m tx origins) is = absurd (cc)
-same-seats s w (event.Cert tx members) is = absurd (cc)
-same-seats s w (event.Send m tx) is = absurd (cc)
-same-seats s w (event.Order tx) is = absurd (cc)
-same-seats s w (event.OrderEnd m) is = absurd (cc)
-same-seats s w event.OrderCommit is = absurd (cc)
-same-seats s w (event.See m entries) is = absurd (cc)
-same-seats s w (event.Run m workers) is = absurd (cc)
-same-seats s w (event.Close m) is = absurd (cc)
-same-seats s w (event.End m) is = absurd (cc)
-same-seats s w (event.Turn m) is = absurd (cc)
-same-seats s w (event.Show m) is = absurd (cc)
-same-seats s w (event.Stop m kept) is = absurd (cc)
-same-seats s w (event.Restart m) is = absurd (cc)
-same-seats s w (event.RawVote m bytes) is = absurd (cc)
-same-seats s w (event.RawHold m bytes) is = absurd (cc)
-same-seats s w (event.Ack m tx spoiled) is = absurd (cc)
-same-seats s w (event.Final tx members) is = absurd (cc)
+same-seats s w e is = absurd (cc)
 
 seats-along : (s : Setting) (w : World) (events : List Event) → list_all is_tx events ≡ true → (run s events w).seats ≡ w.seats
 seats-along s w [] are = refl

@@ -14,7 +14,6 @@ use Rattle.report_text.specs.declared.lines.Line.{Line}
 use Rattle.report_text.specs.declared.lines.Line.TheVariants as line
 use Rattle.report_text.specs.Text.{text_of}
 use Rattle.schedule_text.specs.declared.words.Event.{Event}
-use Rattle.schedule_text.specs.declared.words.Event.TheVariants as event
 use Rattle.schedule_text.specs.declared.words.Schedule.{Schedule}
 use Rattle.schedule_text.specs.Schedule.{Refused, longest_text, schedule_of}
 use Rattle.protocol_spec.specs.Chain.Certificates.{read_signed}
@@ -23,6 +22,7 @@ use Rattle.protocol_spec.specs.Member.Member.{fresh}
 use Rattle.world_spec.specs.Setting.{Setting, Trust}
 use Rattle.world_spec.specs.World.{Made, World, is_honest, new_world}
 use Rattle.world_spec.specs.Names.{tx_name}
+use Rattle.world_spec.specs.Moves.{Move, makes_tx, move_of}
 use Rattle.world_spec.specs.Report.{vote_answered}
 use Rattle.world_spec.specs.Run.{world_after}
 use Rattle.world_spec.specs.Known.{Known}
@@ -43,27 +43,12 @@ use Rattle.committee_core.specs.Report.{refusal_text, setting_in}
 
 -- ---- what is asked for
 
+abbrev pub makes_only : Move → Bool
+makes_only (makes_tx l) = true
+makes_only mv = false
+
 abbrev pub is_tx : Event → Bool
-is_tx (event.Tx name sender spoiled epoch gas budget inputs commands) = true
-is_tx (event.Vote m tx) = false
-is_tx (event.Fvote m tx origins) = false
-is_tx (event.Cert tx members) = false
-is_tx (event.Send m tx) = false
-is_tx (event.Order tx) = false
-is_tx (event.OrderEnd m) = false
-is_tx event.OrderCommit = false
-is_tx (event.See m entries) = false
-is_tx (event.Run m workers) = false
-is_tx (event.Close m) = false
-is_tx (event.End m) = false
-is_tx (event.Turn m) = false
-is_tx (event.Show m) = false
-is_tx (event.Stop m kept) = false
-is_tx (event.Restart m) = false
-is_tx (event.RawVote m bytes) = false
-is_tx (event.RawHold m bytes) = false
-is_tx (event.Ack m tx spoiled) = false
-is_tx (event.Final tx members) = false
+is_tx e = makes_only (move_of e)
 
 abbrev pub are_txs : Schedule → Bool
 are_txs s = list_all is_tx s.events

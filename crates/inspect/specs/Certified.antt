@@ -5,32 +5,19 @@ use Rattle.std.specs.List.{flat_map, list_any}
 use Rattle.chain_messages.specs.Messages as messages
 use Rattle.chain_messages.specs.declared.messages.Certificate.{Certificate}
 use Rattle.schedule_text.specs.declared.words.Event.{Event}
-use Rattle.schedule_text.specs.declared.words.Event.TheVariants as event
 use Rattle.protocol_spec.specs.Chain.Certificates.{Rules, cert_refusal, read_certificate}
+use Rattle.protocol_spec.specs.Member.Calls.{holds}
+use Rattle.world_spec.specs.Moves.{Move, requests, direct, move_of}
 use Rattle.world_spec.specs.Assumptions.{read_list}
+
+-- the bytes of its own that a move hands to a member as a certificate
+abbrev pub raw_held : Move → Option (List ℕ)
+raw_held (requests m (direct (holds bytes))) = Some bytes
+raw_held mv = None
 
 -- the bytes that a line hands to a member as a certificate
 abbrev pub held_bytes : Event → Option (List ℕ)
-held_bytes (event.Tx name sender spoiled epoch gas budget inputs commands) = None
-held_bytes (event.Vote m tx) = None
-held_bytes (event.Fvote m tx origins) = None
-held_bytes (event.Cert tx members) = None
-held_bytes (event.Send m tx) = None
-held_bytes (event.Order tx) = None
-held_bytes (event.OrderEnd m) = None
-held_bytes event.OrderCommit = None
-held_bytes (event.See m entries) = None
-held_bytes (event.Run m workers) = None
-held_bytes (event.Close m) = None
-held_bytes (event.End m) = None
-held_bytes (event.Turn m) = None
-held_bytes (event.Show m) = None
-held_bytes (event.Stop m kept) = None
-held_bytes (event.Restart m) = None
-held_bytes (event.RawVote m bytes) = None
-held_bytes (event.RawHold m bytes) = Some bytes
-held_bytes (event.Ack m tx spoiled) = None
-held_bytes (event.Final tx members) = None
+held_bytes e = raw_held (move_of e)
 
 -- the certificate that they encode, if they encode one
 abbrev pub spelled_by : Option (List ℕ) → List Certificate

@@ -11,7 +11,8 @@ use Rattle.world_spec.specs.World.{Made, Said}
 use Rattle.world_spec.specs.Terms.{Terms}
 use Rattle.world_spec.specs.Posts.{AddsAll, AddsLeft, MayAddLeft, Post, posts_behind, reached_in, record_left}
 use Rattle.world_spec.specs.Scene.{Scene, rules_in}
-use Rattle.world_spec.specs.SceneSteps.{Work, asked, asks, called_scene, hands, held_call, idle, next_on, sees_left, sees_to, signed_call, voted_scene}
+use Rattle.world_spec.specs.Moves.{held_call, signed_call}
+use Rattle.world_spec.specs.SceneSteps.{Work, asked, asks, called_scene, hands, idle, next_on, sees_left, sees_to, voted_scene}
 use Rattle.world_core.specs.Crews.{fallen_at}
 use Rattle.world_core.specs.Cuts.{Books, CallCut, EntriesCut, SeenCut, LineCut, NextCut, Still, books_in, ended, fell, still_in, unmade}
 use Rattle.schedule_text.specs.declared.words.Event.{Event}

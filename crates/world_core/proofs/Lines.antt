@@ -17,7 +17,8 @@ use Rattle.world_spec.specs.World.{Made}
 use Rattle.journal_core.specs.declared.records.Record.{Record}
 use Rattle.world_spec.specs.Posts.{AddsAll, AddsFront, AddsLeft, MayAddLeft, list_of, reached_in, record_left}
 use Rattle.world_spec.specs.Scene.{Scene}
-use Rattle.world_spec.specs.SceneSteps.{MayAddLine, asked, asks, called_scene, held_call, hold_text_in, records_left, send_text_in, signed_call, vote_lines_in, vote_text_in, voted_in, voted_scene, worked}
+use Rattle.world_spec.specs.Moves.{held_call, signed_call}
+use Rattle.world_spec.specs.SceneSteps.{MayAddLine, asked, asks, called_scene, hold_text_in, records_left, send_text_in, vote_lines_in, vote_text_in, voted_scene, worked}
 use Rattle.world_core.specs.Replies.{Leaves}
 use Rattle.world_core.specs.Kept.{LeavesAs}
 use Rattle.world_core.specs.Texts.{spelled_cert, spelled_tx}
@@ -39,7 +40,7 @@ adds_front (Some lists) now m x (inr keeps) = record { front = []; rest = list_o
 
 -- ---- vote
 
-pub vote_none_world : (seal : Signer → List ℕ → Digest) (r : Rules) (sc : Scene) (m : ℕ) (t : Option Made) → None ≡ option_map spelled_tx t → sc ≡ voted_in seal r sc m t
+pub vote_none_world : (seal : Signer → List ℕ → Digest) (r : Rules) (sc : Scene) (m : ℕ) (t : Option Made) → None ≡ option_map spelled_tx t → sc ≡ worked seal r sc (asked m (option_map signed_call t))
 vote_none_world seal r sc m None e = refl
 vote_none_world seal r sc m (Some t) e = absurd (cc)
 
@@ -52,7 +53,7 @@ vote_none_kept r sc m None told (Ok a) e = keeps_same told
 vote_none_kept r sc m None told (Err x) e = keeps_same told
 vote_none_kept r sc m (Some t) told result e = absurd (cc)
 
-pub vote_some_world : (seal : Signer → List ℕ → Digest) (r : Rules) (sc new : Scene) (m : ℕ) (t : Option Made) (bytes : List ℕ) → Some bytes ≡ option_map spelled_tx t → new ≡ voted_scene seal r sc m bytes → new ≡ voted_in seal r sc m t
+pub vote_some_world : (seal : Signer → List ℕ → Digest) (r : Rules) (sc new : Scene) (m : ℕ) (t : Option Made) (bytes : List ℕ) → Some bytes ≡ option_map spelled_tx t → new ≡ voted_scene seal r sc m bytes → new ≡ worked seal r sc (asked m (option_map signed_call t))
 vote_some_world seal r sc new m None bytes e n = absurd (cc)
 vote_some_world seal r sc new m (Some t) bytes e n = n ∙ ap (λ b. voted_scene seal r sc m b) (cc)
 
@@ -74,9 +75,9 @@ vote_cut r sc m (Some t) bytes before now e is = adds_front before now m _ (subs
 
 -- ---- send
 
-pub send_none_world : (r : Rules) (sc : Scene) (m : ℕ) (c : Option Certificate) → None ≡ option_map spelled_cert c → sc ≡ worked r sc (asked m (option_map held_call c))
-send_none_world r sc m None e = refl
-send_none_world r sc m (Some c) e = absurd (cc)
+pub send_none_world : (seal : Signer → List ℕ → Digest) (r : Rules) (sc : Scene) (m : ℕ) (c : Option Certificate) → None ≡ option_map spelled_cert c → sc ≡ worked seal r sc (asked m (option_map held_call c))
+send_none_world seal r sc m None e = refl
+send_none_world seal r sc m (Some c) e = absurd (cc)
 
 pub send_none_lines : (trust : Trust) (sc : Scene) (m : ℕ) (name : Name) (c : Option Certificate) (lines : List Line) → None ≡ option_map spelled_cert c → lines ≡ line.Send m name send_text.NoCertificate ∷ [] → lines ≡ line.Send m name (send_text_in trust sc m c) ∷ []
 send_none_lines trust sc m name None lines e l = l
@@ -87,9 +88,9 @@ send_none_kept r sc m None told (Ok a) e = keeps_same told
 send_none_kept r sc m None told (Err x) e = keeps_same told
 send_none_kept r sc m (Some c) told result e = absurd (cc)
 
-pub send_some_world : (r : Rules) (sc new : Scene) (m : ℕ) (c : Option Certificate) (bytes : List ℕ) → Some bytes ≡ option_map spelled_cert c → new ≡ called_scene r sc m (holds bytes) → new ≡ worked r sc (asked m (option_map held_call c))
-send_some_world r sc new m None bytes e n = absurd (cc)
-send_some_world r sc new m (Some c) bytes e n = n ∙ ap (λ b. called_scene r sc m (holds b)) (cc)
+pub send_some_world : (seal : Signer → List ℕ → Digest) (r : Rules) (sc new : Scene) (m : ℕ) (c : Option Certificate) (bytes : List ℕ) → Some bytes ≡ option_map spelled_cert c → new ≡ called_scene r sc m (holds bytes) → new ≡ worked seal r sc (asked m (option_map held_call c))
+send_some_world seal r sc new m None bytes e n = absurd (cc)
+send_some_world seal r sc new m (Some c) bytes e n = n ∙ ap (λ b. called_scene r sc m (holds b)) (cc)
 
 pub send_some_lines : (trust : Trust) (sc : Scene) (m : ℕ) (name : Name) (c : Option Certificate) (bytes : List ℕ) (lines : List Line) (text : SendText) → Some bytes ≡ option_map spelled_cert c → text ≡ hold_text_in trust sc m bytes → lines ≡ line.Send m name text ∷ [] → lines ≡ line.Send m name (send_text_in trust sc m c) ∷ []
 send_some_lines trust sc m name None bytes lines text e x l = absurd (cc)

@@ -58,7 +58,7 @@ module _ (trust : Trust) (sc : Scene) (m e : ℕ) where
     none_left : min e (entries_left (bare_world sc) (state_at sc m)) ≡ 0
     none_left = ap (λ (s : Option Member). min e (entries_left (bare_world sc) s)) (sym (state_is None down)) ∙ min_none e
 
-    pub down_world : sc ≡ worked r sc (see_work sc m e (state_at sc m))
+    pub down_world : sc ≡ worked trust.seal r sc (see_work sc m e (state_at sc m))
     down_world = ap (λ (n : ℕ). sees_to r n sc m) (sym none_left)
 
     pub down_lines : (lines : List Line) → lines ≡ line.See m see_text.Down ∷ [] → lines ≡ see_lines_in trust sc m e (state_at sc m)
@@ -93,7 +93,7 @@ module _ (trust : Trust) (sc : Scene) (m e : ℕ) where
       rests : (n : ℕ) → Rests r m sc n
       rests n = halted_rests r m sc post_here.0 seat post_here.1 post_here.2 fork_here.0 fork_here.1 n
 
-      pub halted_world : sc ≡ worked r sc (see_work sc m e (state_at sc m))
+      pub halted_world : sc ≡ worked trust.seal r sc (see_work sc m e (state_at sc m))
       halted_world = sym (rests (min e (entries_left (bare_world sc) (state_at sc m)))).scene
 
       pub halted_kept : {A E : Type 0} (told : Option Journals) (result : Result A E) → LeavesAs r sc (see_work sc m e (state_at sc m)) told told result
@@ -112,7 +112,7 @@ module _ (trust : Trust) (sc : Scene) (m e : ℕ) where
       many_is : n ≡ min e (entries_left (bare_world sc) (state_at sc m))
       many_is = many ∙ ap (λ (s : Option Member). min e (entries_left (bare_world sc) s)) (state_is (Some seat) at)
 
-      pub taken_world : (new : Scene) → new ≡ sees_to r n sc m → new ≡ worked r sc (see_work sc m e (state_at sc m))
+      pub taken_world : (new : Scene) → new ≡ sees_to r n sc m → new ≡ worked trust.seal r sc (see_work sc m e (state_at sc m))
       taken_world new is = is ∙ ap (λ (k : ℕ). sees_to r k sc m) many_is
 
       pub taken_kept : {B F : Type 0} (before now : Option Journals) (result : Result B F) → AddsAll before now m (sees_left r n sc m) → LeavesAs r sc (see_work sc m e (state_at sc m)) before now result

@@ -3,7 +3,6 @@ use Rattle.std.proofs.Common.{◌≡◌, ◌<◌, ◌∙◌, ap, sym, refl, subs
 use Rattle.std.specs.Prelude.{◌==◌}
 use Rattle.digest_core.specs.declared.Digest.{Digest}
 use Rattle.quorum_core.specs.declared.signer.Signer.{Signer}
-use Rattle.chain_types.specs.Transactions as transactions
 use Rattle.chain_messages.specs.declared.messages.Certificate.{Certificate}
 use Rattle.chain_messages.specs.declared.messages.Entry.TheVariants as entry
 use Rattle.chain_messages.specs.declared.messages.Statement.TheVariants as statement
@@ -11,18 +10,19 @@ use Rattle.outside.specs.Lists.{Journals}
 use Rattle.protocol_spec.proofs.ListLemmas.{front_then, front_whole}
 use Rattle.protocol_spec.specs.Chain.Certificates.{Rules}
 use Rattle.protocol_spec.specs.Chain.Words.{IsFront}
-use Rattle.protocol_spec.specs.Member.Calls.{Call, acks, closes, ends, holds, runs, sees, turns, votes}
+use Rattle.protocol_spec.specs.Member.Calls.{Call, acks, runs, sees, votes}
 use Rattle.report_text.specs.declared.lines.Line.{Line}
 use Rattle.schedule_text.specs.declared.words.Event.{Event}
 use Rattle.schedule_text.specs.declared.words.Event.TheVariants as event
 use Rattle.world_spec.specs.Setting.{Name, Setting, Trust}
 use Rattle.world_spec.specs.World.{Made, Said, World, honest_in, is_honest, said_by, sealed_by, seat_honest}
 use Rattle.world_spec.specs.Names.{cert_named, made_named}
+use Rattle.world_spec.specs.Moves.{Move, requests, delivers, claims, submits, submits_end, claims_vote, claims_ack, cert_submitted, move_of}
 use Rattle.world_spec.specs.Step.{appended_entry, end_in, end_ordered, fvote_origins, fvoted, has_ended, honest_end, last_said, ordered, ordered_end, risen_if, says, sealed_end}
 use Rattle.world_spec.specs.Terms.{Terms, rules_for}
 use Rattle.world_spec.specs.Posts.{reached_in, stated_in}
 use Rattle.world_spec.specs.Scene.{Scene, bare_setting, bare_world, rules_in}
-use Rattle.world_spec.specs.SceneSteps.{Work, acked_in, asks, called_if, called_scene, false_ack_in, hands, idle, next_on, sees_to, steps_to, voted_in, voted_scene, with_order, work_of, worked}
+use Rattle.world_spec.specs.SceneSteps.{Work, acked_in, asks, called_if, called_scene, false_ack_in, hands, idle, next_on, sees_to, steps_by, steps_to, voted_scene, with_order, work_by, worked}
 use Rattle.world_lines.specs.Pushed.{GrowsToward}
 use Rattle.world_lines.proofs.Growing.{all_added}
 use Rattle.world_core.specs.Sees.{HasSeen}
@@ -49,10 +49,6 @@ call_front r sc m call = (map (said_by m) (stated_in r call (reached_in r sc.pos
 vote_front : (seal : Signer → List ℕ → Digest) (r : Rules) (sc : Scene) (m : ℕ) (bytes : List ℕ) → IsFront sc.said (voted_scene seal r sc m bytes).said
 vote_front seal r sc m bytes = (map (sealed_by seal m) (stated_in r (votes bytes) (reached_in r sc.posts m (votes bytes))), refl)
 
-voted_front : (seal : Signer → List ℕ → Digest) (r : Rules) (sc : Scene) (m : ℕ) (t : Option Made) → IsFront sc.said (voted_in seal r sc m t).said
-voted_front seal r sc m None = front_whole sc.said
-voted_front seal r sc m (Some t) = vote_front seal r sc m (transactions.signed.spell t.signed)
-
 next_front : (r : Rules) (sc : Scene) (m : ℕ) (call : Option Call) → IsFront sc.said (called_if r sc m call).said
 next_front r sc m None = front_whole sc.said
 next_front r sc m (Some call) = call_front r sc m call
@@ -62,10 +58,11 @@ sees_front r zero sc m = front_whole sc.said
 sees_front r (suc n) sc m =
     front_then sc.said (called_if r sc m (next_on sc m)).said (sees_to r n (called_if r sc m (next_on sc m)) m).said (next_front r sc m (next_on sc m)) (sees_front r n (called_if r sc m (next_on sc m)) m)
 
-work_front : (r : Rules) (sc : Scene) (work : Work) → IsFront sc.said (worked r sc work).said
-work_front r sc idle = front_whole sc.said
-work_front r sc (asks m call) = call_front r sc m call
-work_front r sc (hands m n) = sees_front r n sc m
+work_front : (seal : Signer → List ℕ → Digest) (r : Rules) (sc : Scene) (work : Work) → IsFront sc.said (worked seal r sc work).said
+work_front seal r sc idle = front_whole sc.said
+work_front seal r sc (asks m (votes bytes)) = vote_front seal r sc m bytes
+work_front seal r sc (asks m call) = call_front r sc m call
+work_front seal r sc (hands m n) = sees_front r n sc m
 
 -- ---- what lines add that make no call
 
@@ -117,28 +114,18 @@ ack_front r sc m spoiled (Some t) = go (is_honest (bare_world sc) m)
 
 -- ---- a line
 
+move_front : (trust : Trust) (sc : Scene) (mv : Move) → IsFront sc.said (steps_by trust sc mv).said
+move_front trust sc (requests m ask) = work_front trust.seal (rules_in trust.accepts sc) sc (work_by sc (requests m ask))
+move_front trust sc (delivers m entries) = work_front trust.seal (rules_in trust.accepts sc) sc (work_by sc (delivers m entries))
+move_front trust sc (claims m tx (claims_vote origins)) = false_vote_front (bare_setting trust sc) (bare_world sc) m origins (made_named (bare_world sc) tx)
+move_front trust sc (claims m tx (claims_ack spoiled)) = ack_front (rules_in trust.accepts sc) sc m spoiled (made_named (bare_world sc) tx)
+move_front trust sc (submits (cert_submitted tx)) = order_front (bare_world sc) (cert_named (bare_world sc) tx)
+move_front trust sc (submits_end m) = end_front (bare_setting trust sc) (bare_world sc) m
+move_front trust sc mv = front_whole sc.said
+
 pub step_front : (trust : Trust) (sc : Scene) (e : Event) → IsFront sc.said (steps_to trust sc e).said
 unfolding steps_to
-step_front trust sc (event.Tx name sender spoiled epoch gas budget inputs commands) = front_whole sc.said
-step_front trust sc (event.Vote m tx) = voted_front trust.seal (rules_in trust.accepts sc) sc m (made_named (bare_world sc) tx)
-step_front trust sc (event.Fvote m tx origins) = false_vote_front (bare_setting trust sc) (bare_world sc) m origins (made_named (bare_world sc) tx)
-step_front trust sc (event.Cert tx members) = front_whole sc.said
-step_front trust sc (event.Send m tx) = work_front (rules_in trust.accepts sc) sc (work_of sc (event.Send m tx))
-step_front trust sc (event.Order tx) = order_front (bare_world sc) (cert_named (bare_world sc) tx)
-step_front trust sc (event.OrderEnd m) = end_front (bare_setting trust sc) (bare_world sc) m
-step_front trust sc event.OrderCommit = front_whole sc.said
-step_front trust sc (event.See m entries) = work_front (rules_in trust.accepts sc) sc (work_of sc (event.See m entries))
-step_front trust sc (event.Run m workers) = call_front (rules_in trust.accepts sc) sc m runs
-step_front trust sc (event.Close m) = call_front (rules_in trust.accepts sc) sc m closes
-step_front trust sc (event.End m) = call_front (rules_in trust.accepts sc) sc m ends
-step_front trust sc (event.Turn m) = call_front (rules_in trust.accepts sc) sc m turns
-step_front trust sc (event.Show m) = front_whole sc.said
-step_front trust sc (event.Stop m kept) = front_whole sc.said
-step_front trust sc (event.Restart m) = front_whole sc.said
-step_front trust sc (event.RawVote m bytes) = vote_front trust.seal (rules_in trust.accepts sc) sc m bytes
-step_front trust sc (event.RawHold m bytes) = call_front (rules_in trust.accepts sc) sc m (holds bytes)
-step_front trust sc (event.Ack m tx spoiled) = ack_front (rules_in trust.accepts sc) sc m spoiled (made_named (bare_world sc) tx)
-step_front trust sc (event.Final tx members) = front_whole sc.said
+step_front trust sc e = move_front trust sc (move_of e)
 
 module _ (trust : Trust) (sc : Scene) (e : Event) (said : List Said) where
   -- it added nothing

@@ -3,20 +3,19 @@ use Rattle.std.proofs.Common.{◌≡◌, ◌∙◌, ap, sym, refl, subst, ℕ, z
 use Rattle.std.specs.Prelude.{OnOk, slice_get}
 use Rattle.digest_core.specs.declared.Digest.{Digest}
 use Rattle.quorum_core.specs.declared.signer.Signer.{Signer}
-use Rattle.chain_types.specs.Transactions as transactions
 use Rattle.outside.specs.Lists.{Journals}
 use Rattle.protocol_spec.proofs.ListLemmas.{set_length}
 use Rattle.protocol_spec.specs.Chain.Certificates.{Rules}
-use Rattle.protocol_spec.specs.Member.Calls.{Call, acks, closes, ends, holds, runs, turns, votes}
+use Rattle.protocol_spec.specs.Member.Calls.{Call, acks, votes}
 use Rattle.schedule_text.specs.declared.words.Event.{Event}
-use Rattle.schedule_text.specs.declared.words.Event.TheVariants as event
 use Rattle.report_text.specs.declared.lines.Line.{Line}
 use Rattle.world_spec.specs.Setting.{Trust}
 use Rattle.world_spec.specs.World.{Made, is_honest, said_by}
 use Rattle.world_spec.specs.Names.{made_named}
+use Rattle.world_spec.specs.Moves.{Move, requests, delivers, claims, arms_stop, claims_ack, move_of}
 use Rattle.world_spec.specs.Posts.{Post, arming, changed_at, posts_with, starting}
 use Rattle.world_spec.specs.Scene.{Scene, bare_world, rules_in}
-use Rattle.world_spec.specs.SceneSteps.{Work, acked_in, asks, called_if, called_scene, false_ack_in, hands, idle, next_on, sees_to, steps_to, voted_in, voted_scene, work_of, worked}
+use Rattle.world_spec.specs.SceneSteps.{Work, acked_in, asks, called_if, called_scene, false_ack_in, hands, idle, next_on, sees_to, steps_by, steps_to, voted_scene, work_by, worked}
 use Rattle.world_core.specs.Restarts.{Accepting, RestartsAs}
 use Rattle.world_core.specs.Stays.{Stays}
 use Rattle.world_core.specs.declared.world.WorldFault.{WorldFault}
@@ -35,10 +34,6 @@ one_call r sc m call = record { many = called_many r call sc.posts m (slice_get 
 one_vote : (seal : Signer → List ℕ → Digest) (r : Rules) (sc : Scene) (m : ℕ) (bytes : List ℕ) → Stays sc (voted_scene seal r sc m bytes)
 one_vote seal r sc m bytes = record { many = called_many r (votes bytes) sc.posts m (slice_get sc.posts m); terms = refl }
 
-any_vote : (seal : Signer → List ℕ → Digest) (r : Rules) (sc : Scene) (m : ℕ) (t : Option Made) → Stays sc (voted_in seal r sc m t)
-any_vote seal r sc m None = record { many = refl; terms = refl }
-any_vote seal r sc m (Some t) = one_vote seal r sc m (transactions.signed.spell t.signed)
-
 stays_then : (old mid new : Scene) → Stays old mid → Stays mid new → Stays old new
 stays_then old mid new one two = record { many = two.many ∙ one.many; terms = two.terms ∙ one.terms }
 
@@ -50,10 +45,11 @@ sees_stays : (r : Rules) (n : ℕ) (sc : Scene) (m : ℕ) → Stays sc (sees_to 
 sees_stays r zero sc m = record { many = refl; terms = refl }
 sees_stays r (suc n) sc m = stays_then sc (called_if r sc m (next_on sc m)) (sees_to r n (called_if r sc m (next_on sc m)) m) (next_stays r sc m (next_on sc m)) (sees_stays r n (called_if r sc m (next_on sc m)) m)
 
-any_work : (r : Rules) (sc : Scene) (work : Work) → Stays sc (worked r sc work)
-any_work r sc idle = record { many = refl; terms = refl }
-any_work r sc (asks m call) = one_call r sc m call
-any_work r sc (hands m n) = sees_stays r n sc m
+any_work : (seal : Signer → List ℕ → Digest) (r : Rules) (sc : Scene) (work : Work) → Stays sc (worked seal r sc work)
+any_work seal r sc idle = record { many = refl; terms = refl }
+any_work seal r sc (asks m (votes bytes)) = one_vote seal r sc m bytes
+any_work seal r sc (asks m call) = one_call r sc m call
+any_work seal r sc (hands m n) = sees_stays r n sc m
 
 ack_stays : (r : Rules) (sc : Scene) (m : ℕ) (spoiled : Bool) (t : Option Made) → Stays sc (acked_in r sc m spoiled t)
 ack_stays r sc m spoiled None = record { many = refl; terms = refl }
@@ -63,28 +59,16 @@ ack_stays r sc m spoiled (Some t) = go (is_honest (bare_world sc) m)
     go true = one_call r sc m (acks t.digest)
     go false = record { many = refl; terms = refl }
 
-pub stays : (trust : Trust) (sc : Scene) (e : Event) → Stays sc (steps_to trust sc e)
+stays_by : (trust : Trust) (sc : Scene) (mv : Move) → Stays sc (steps_by trust sc mv)
+stays_by trust sc (requests m ask) = any_work trust.seal (rules_in trust.accepts sc) sc (work_by sc (requests m ask))
+stays_by trust sc (delivers m entries) = any_work trust.seal (rules_in trust.accepts sc) sc (work_by sc (delivers m entries))
+stays_by trust sc (claims m tx (claims_ack spoiled)) = ack_stays (rules_in trust.accepts sc) sc m spoiled (made_named (bare_world sc) tx)
+stays_by trust sc (arms_stop m kept) = record { many = changed_many sc.posts m (arming kept) (slice_get sc.posts m); terms = refl }
+stays_by trust sc mv = record { many = refl; terms = refl }
+
+stays : (trust : Trust) (sc : Scene) (e : Event) → Stays sc (steps_to trust sc e)
 unfolding steps_to
-stays trust sc (event.Tx name sender spoiled epoch gas budget inputs commands) = record { many = refl; terms = refl }
-stays trust sc (event.Vote m tx) = any_vote trust.seal (rules_in trust.accepts sc) sc m (made_named (bare_world sc) tx)
-stays trust sc (event.Fvote m tx origins) = record { many = refl; terms = refl }
-stays trust sc (event.Cert tx members) = record { many = refl; terms = refl }
-stays trust sc (event.Send m tx) = any_work (rules_in trust.accepts sc) sc (work_of sc (event.Send m tx))
-stays trust sc (event.Order tx) = record { many = refl; terms = refl }
-stays trust sc (event.OrderEnd m) = record { many = refl; terms = refl }
-stays trust sc event.OrderCommit = record { many = refl; terms = refl }
-stays trust sc (event.See m entries) = any_work (rules_in trust.accepts sc) sc (work_of sc (event.See m entries))
-stays trust sc (event.Run m workers) = one_call (rules_in trust.accepts sc) sc m runs
-stays trust sc (event.Close m) = one_call (rules_in trust.accepts sc) sc m closes
-stays trust sc (event.End m) = one_call (rules_in trust.accepts sc) sc m ends
-stays trust sc (event.Turn m) = one_call (rules_in trust.accepts sc) sc m turns
-stays trust sc (event.Show m) = record { many = refl; terms = refl }
-stays trust sc (event.Stop m kept) = record { many = changed_many sc.posts m (arming kept) (slice_get sc.posts m); terms = refl }
-stays trust sc (event.Restart m) = record { many = refl; terms = refl }
-stays trust sc (event.RawVote m bytes) = one_vote trust.seal (rules_in trust.accepts sc) sc m bytes
-stays trust sc (event.RawHold m bytes) = one_call (rules_in trust.accepts sc) sc m (holds bytes)
-stays trust sc (event.Ack m tx spoiled) = ack_stays (rules_in trust.accepts sc) sc m spoiled (made_named (bare_world sc) tx)
-stays trust sc (event.Final tx members) = record { many = refl; terms = refl }
+stays trust sc e = stays_by trust sc (move_of e)
 
 pub restart_stays : (accepts : Accepting) (told : Option Journals) (m : ℕ) (old new : Scene) (p : Option Post) (result : Result (List Line) WorldFault) → RestartsAs accepts told m old new p result → OnOk result (Stays old new)
 restart_stays accepts told m old new (Some p) (Ok lines) is =

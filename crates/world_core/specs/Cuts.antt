@@ -8,8 +8,8 @@ use Rattle.outside.specs.Lists.{Journals, KeepsJournals}
 use Rattle.protocol_spec.specs.Chain.Certificates.{Rules}
 use Rattle.protocol_spec.specs.Member.Calls.{Call}
 use Rattle.schedule_text.specs.declared.words.Event.{Event}
-use Rattle.schedule_text.specs.declared.words.Event.TheVariants as event
 use Rattle.world_spec.specs.Setting.{Trust}
+use Rattle.world_spec.specs.Moves.{Move, submits_end, move_of}
 use Rattle.world_spec.specs.Step.{appended_entry, sealed_end}
 use Rattle.world_spec.specs.World.{Formed}
 use Rattle.world_spec.specs.Known.{Known}
@@ -47,28 +47,14 @@ still_in sc = record { books = books_in sc; posts = sc.posts }
 abbrev pub end_appended : Trust → Scene → ℕ → Scene
 end_appended trust sc m = with_order sc (appended_entry (bare_world sc) (sealed_end (bare_setting trust sc) m sc.epoch))
 
+-- the member whose End a move is to order
+abbrev pub submits_end_of : Move → Option ℕ
+submits_end_of (submits_end m) = Some m
+submits_end_of mv = None
+
 -- the member whose End a line is to order
 abbrev pub orders_end : Event → Option ℕ
-orders_end (event.Tx name sender spoiled epoch gas budget inputs commands) = None
-orders_end (event.Vote m tx) = None
-orders_end (event.Fvote m tx origins) = None
-orders_end (event.Cert tx members) = None
-orders_end (event.Send m tx) = None
-orders_end (event.Order tx) = None
-orders_end (event.OrderEnd m) = Some m
-orders_end event.OrderCommit = None
-orders_end (event.See m entries) = None
-orders_end (event.Run m workers) = None
-orders_end (event.Close m) = None
-orders_end (event.End m) = None
-orders_end (event.Turn m) = None
-orders_end (event.Show m) = None
-orders_end (event.Stop m kept) = None
-orders_end (event.Restart m) = None
-orders_end (event.RawVote m bytes) = None
-orders_end (event.RawHold m bytes) = None
-orders_end (event.Ack m tx spoiled) = None
-orders_end (event.Final tx members) = None
+orders_end e = submits_end_of (move_of e)
 
 -- what is seen of a world after a line that broke off is as before; only a line that orders an End may have ordered it
 abbrev pub SeenCut : {A : Type 0} → (Scene → A) → Trust → Scene → Option ℕ → Scene → Type 0

@@ -4,11 +4,11 @@ use Rattle.digest_core.specs.declared.Digest.{Digest}
 use Rattle.quorum_core.specs.declared.signer.Signer.{Signer}
 use Rattle.outside.specs.Lists.{Journals}
 use Rattle.schedule_text.specs.declared.words.Event.{Event}
-use Rattle.schedule_text.specs.declared.words.Event.TheVariants as event
 use Rattle.report_text.specs.declared.lines.Line.{Line}
 use Rattle.report_text.specs.declared.lines.Line.TheVariants as line
 use Rattle.report_text.specs.declared.lines.RestartText.TheVariants as restart_text
 use Rattle.protocol_spec.specs.Member.Member.{Member}
+use Rattle.world_spec.specs.Moves.{Move, starts_again, move_of}
 use Rattle.world_spec.specs.Starts.{started}
 use Rattle.world_spec.specs.Posts.{Post, started_at}
 use Rattle.world_spec.specs.Scene.{Scene, rules_in}
@@ -45,25 +45,11 @@ RestartsAs accepts told m old new p (Err (fault.BadRecord member place)) = Stays
 RestartsAs accepts told m old new p (Err fault.KeepFault) = Unit {0}
 RestartsAs accepts told m old new p (Err fault.OutOfMemory) = Unit {0}
 
--- what a step says of a restart
+-- what a step says of a start
+abbrev pub MayStart : Accepting → Option Journals → Scene → Scene → Move → Result (List Line) WorldFault → Type 0
+MayStart accepts told old new (starts_again m) result = RestartsAs accepts told m old new (slice_get old.posts m) result
+MayStart accepts told old new mv result = Unit {0}
+
+-- likewise of a line that is one
 abbrev pub MayRestart : Accepting → Option Journals → Scene → Scene → Event → Result (List Line) WorldFault → Type 0
-MayRestart accepts told old new (event.Tx name sender spoiled epoch gas budget inputs commands) result = Unit {0}
-MayRestart accepts told old new (event.Vote m tx) result = Unit {0}
-MayRestart accepts told old new (event.Fvote m tx origins) result = Unit {0}
-MayRestart accepts told old new (event.Cert tx members) result = Unit {0}
-MayRestart accepts told old new (event.Send m tx) result = Unit {0}
-MayRestart accepts told old new (event.Order tx) result = Unit {0}
-MayRestart accepts told old new (event.OrderEnd m) result = Unit {0}
-MayRestart accepts told old new event.OrderCommit result = Unit {0}
-MayRestart accepts told old new (event.See m entries) result = Unit {0}
-MayRestart accepts told old new (event.Run m workers) result = Unit {0}
-MayRestart accepts told old new (event.Close m) result = Unit {0}
-MayRestart accepts told old new (event.End m) result = Unit {0}
-MayRestart accepts told old new (event.Turn m) result = Unit {0}
-MayRestart accepts told old new (event.Show m) result = Unit {0}
-MayRestart accepts told old new (event.Stop m kept) result = Unit {0}
-MayRestart accepts told old new (event.Restart m) result = RestartsAs accepts told m old new (slice_get old.posts m) result
-MayRestart accepts told old new (event.RawVote m bytes) result = Unit {0}
-MayRestart accepts told old new (event.RawHold m bytes) result = Unit {0}
-MayRestart accepts told old new (event.Ack m tx spoiled) result = Unit {0}
-MayRestart accepts told old new (event.Final tx members) result = Unit {0}
+MayRestart accepts told old new e result = MayStart accepts told old new (move_of e) result

@@ -537,19 +537,7 @@ impl World {
             Event::Turn(member) => self.turn(rt, keeper, sealer, *member),
             Event::RawVote { member, bytes } => self.raw_vote(rt, keeper, sealer, *member, bytes),
             Event::RawHold { member, bytes } => self.raw_hold(rt, keeper, sealer, *member, bytes),
-            Event::Tx { .. }
-            | Event::Fvote { .. }
-            | Event::Cert { .. }
-            | Event::Order(_)
-            | Event::OrderEnd(_)
-            | Event::OrderCommit
-            | Event::See { .. }
-            | Event::End(_)
-            | Event::Show(_)
-            | Event::Stop { .. }
-            | Event::Restart(_)
-            | Event::Ack { .. }
-            | Event::Final { .. } => unreachable!(),
+            _ => unreachable!(),
         }
     }
 }

@@ -135,15 +135,7 @@ impl World {
             }
             Event::Show(member) => self.show(*member),
             Event::Stop { member, kept } => self.stop(*member, *kept),
-            Event::Vote { .. }
-            | Event::Send { .. }
-            | Event::See { .. }
-            | Event::Run { .. }
-            | Event::Close(_)
-            | Event::Turn(_)
-            | Event::Restart(_)
-            | Event::RawVote { .. }
-            | Event::RawHold { .. } => unreachable!(),
+            _ => unreachable!(),
         }
     }
 }

@@ -64,6 +64,6 @@ pub returns-clause-said : goal.returns-clause-said
 unfolding steps_to work_of
 returns-clause-said g c =
     all_said_on (trust_by (g.S.MakesSeals.made c.args.sealer.now) (g.S.Checker.accepts c.args.sealer.now)) c.args.self.now (events.Send c.args.member c.args.tx.now) c.hand.new.self.said c.told-2.result
-    (ap (λ (x : Scene). x.said) (send_some_world (rules_in (g.S.Checker.accepts c.args.sealer.now) c.args.self.now) c.args.self.now c.hand.new.self c.args.member (cert_named (bare_world c.args.self.now) c.args.tx.now) c.as_slice-3.result.now
+    (ap (λ (x : Scene). x.said) (send_some_world (g.S.MakesSeals.made c.args.sealer.now) (rules_in (g.S.Checker.accepts c.args.sealer.now) c.args.self.now) c.args.self.now c.hand.new.self c.args.member (cert_named (bare_world c.args.self.now) c.args.tx.now) c.as_slice-3.result.now
     (let e : Some c.as_slice-3.result.now ≡ option_map spelled_cert (cert_named (bare_world c.args.self.now) c.args.tx.now) = cc (c.as_slice-3.ensures.value, c.in-Some.is, c.in-Ok-spelled_cert.ensures, c.as_slice-2.ensures.value) in e)
     c.in-Ok-hand.ensures.world))
