@@ -319,7 +319,10 @@ fn said_refused(alloc: Global, line: u64, cause: u8) -> Result<Said, OutOfMemory
 {
     let mut text = Seq::new(alloc);
     print_refused(line, cause, &mut text)?;
-    Ok(Said { status: NO_SCHEDULE, text })
+    Ok(Said {
+        status: NO_SCHEDULE,
+        text,
+    })
 }
 
 /// What is said of a text.

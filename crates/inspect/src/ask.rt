@@ -19,9 +19,7 @@ use crate::digests::digests_answer;
 use crate::part::part_of;
 use crate::questions::Question;
 use crate::states::{states_answer, states_at_answer};
-use committee_core::status::{
-    KEEP_FAULT, NO_SCHEDULE, OUT_OF_MEMORY, READ_FAULT, WRITE_FAULT,
-};
+use committee_core::status::{KEEP_FAULT, NO_SCHEDULE, OUT_OF_MEMORY, READ_FAULT, WRITE_FAULT};
 use committee_core::{LONGEST_TEXT, Unrun, refuse, world_behind};
 use outside::{Keeper, OutFault, Sink, Source, read_text, write_all};
 use std::alloc::Global;
