@@ -171,7 +171,7 @@ kept-start t tx objects = record {
 
 -- ---- the block after all commands
 
--- and no result holds a value
+-- a block after all commands: what was kept is kept, and no result holds a value any more
 pub record IsDone (t : Transaction) (tx : Digest) (objects : List Object) (b : Block) : Type 0 where
   pub kept : IsKept t tx (first_block t objects) b
   pub used : list_any is_unused b.slots ≡ false

@@ -53,7 +53,7 @@ once-each (y ∷ ys) e x = go (id_eq y x) refl (once-each ys (or_false_right (li
     go true h rest = let none = subst (λ z. times z ys ≡ 0) (id_same y x h) (none-times y ys (or_false_left (list_any (id_eq y) ys) (repeats id_eq ys) e)) in omega (arith, none)
     go false h rest = omega (arith, rest)
 
--- and the other way round
+-- a list in which each id stands at most once has no repetition
 pub each-once : (xs : List ObjectId) → ((x : ObjectId) → times x xs ≤ 1) → repeats id_eq xs ≡ false
 each-once [] once = refl
 each-once (y ∷ ys) once = go (list_any (id_eq y) ys) (times-none y ys here) (each-once ys below)

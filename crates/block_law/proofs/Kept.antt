@@ -20,7 +20,7 @@ use native.Mathlib.Omega.{arith}
 
 -- ---- one value
 
--- the same object, with another amount at most
+-- `now` is the object `before`, with another amount at most
 abbrev pub Like : Item → Item → Type 0
 Like before now = (now.id ≡ before.id) × ((n : ℕ) × (now.content ≡ with_amount n before.content))
 

@@ -184,7 +184,7 @@ module _ (w : Item → ℕ) where
       let rest = inputs-weight t first whole placed (suc n) is os slots (next t first whole placed n (inputs.Shared id initial false) is (object (item_of o)) (input_slots (suc n) is os) s slots at) in
       omega (arith, here, rest)
 
-  -- likewise for the whole block
+  -- the weight of all slots after a block is that of its written places and of its unwritten inputs
   pub whole-weight : (t : Transaction) (tx : Digest) (coin : Object) (os : List Object) (b : Block) → IsDone t tx (coin ∷ os) b → slots_weight w b.slots ≡ places_weight b.slots (written_places t (coin ∷ os)) + unwritten t.inputs os
   whole-weight t tx coin os b is = go b.slots is.kept.stands is.kept.good is.used
     where

@@ -23,7 +23,7 @@ pub record IsInOrder (opening : List Object) (before : List Admitted) (a : Admit
   pub origins : list_all (is_origin_in before) a.cert.origins ≡ true
   pub versions : a ≡ admit opening before (held_again a)
 
--- whatever the entries are
+-- in every sequence, whatever its entries are, each admitted transaction is in order after those before it
 abbrev pub AdmittedInOrder : Type 0
 AdmittedInOrder = (r : Rules) (opening : List Object) (epoch : ℕ) (entries : List (List ℕ)) → Along (IsInOrder opening) [] (seen r opening epoch entries).admission.admitted
 

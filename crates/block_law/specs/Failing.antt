@@ -14,12 +14,12 @@ use Rattle.protocol_spec.specs.Block.Execution.{execution, written_inputs}
 abbrev pub at_version : ℕ → (Place × Object) → Object
 at_version version x = record x.1 { version = version }
 
--- a gas coin at another version, and the cost lower
+-- a gas coin at another version, with the cost taken off its balance
 abbrev pub paid : ℕ → ℕ → ℕ → Object → Object
 paid version balance price coin = record coin { version = version; content = content.Coin 0 (balance - price) }
 
--- these effects have a failure, draw no id, delete nothing; the gas coin pays, and the inputs that may be written
--- differ only in their version
+-- a failed block: its effects have a failure, draw no id and delete nothing; the gas coin pays, and the other inputs
+-- that may be written differ only in their version
 pub record PaysGas (t : Transaction) (coin : Object) (others : List Object) (x : Executed) : Type 0 where
   pub balance : ℕ
   pub held : coin.content ≡ content.Coin 0 balance
@@ -29,7 +29,7 @@ pub record PaysGas (t : Transaction) (coin : Object) (others : List Object) (x :
   pub deleted : x.effects.deleted ≡ []
   pub objects : x.objects ≡ paid (version_of (coin ∷ others)) balance (cost t) coin ∷ map (at_version (version_of (coin ∷ others))) (written_inputs 0 t.inputs others)
 
--- for every transaction of valid shape, and all objects that fit it
+-- every failed block is of this kind, for every transaction of valid shape and all objects that fit it
 abbrev pub AFailedBlockPaysGas : Type 0
 AFailedBlockPaysGas =
     (t : Transaction) (coin : Object) (others : List Object) →

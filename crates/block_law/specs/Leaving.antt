@@ -18,7 +18,7 @@ abbrev pub LiveIsMap : Type 0
 LiveIsMap = (opening : List Object) (steps : List Step) (executed : List Execution) → AreApart opening → AreOrderly opening steps → IsOfSteps steps executed
     → (id : ObjectId) → live opening executed id ≡ get (fold_all (map_of opening) (map tx_of steps)).map id
 
--- and the list of live objects is that of one thread's map
+-- the list of live objects is that of one thread's map
 abbrev pub LiveListIsMap : Type 0
 LiveListIsMap = (opening : List Object) (steps : List Step) (executed : List Execution) → AreApart opening → AreOrderly opening steps → IsOfSteps steps executed
     → live_list opening executed ≡ values (fold_all (map_of opening) (map tx_of steps)).map

@@ -35,7 +35,7 @@ EffectsNameEachIdOnce =
     repeats id_eq (touched_ids t (execution t objects).effects) ≡ false →
     repeats id_eq (effect_ids (execution t objects).effects) ≡ false
 
--- no other id is written or deleted
+-- effects write and delete only ids that the transaction may touch
 abbrev pub EffectsNameWhatIsTouched : Type 0
 EffectsNameWhatIsTouched =
     (t : Transaction) (objects : List Object) → fits t objects ≡ true → (id : ObjectId) →

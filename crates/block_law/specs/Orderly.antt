@@ -50,19 +50,19 @@ IsKnown opening before id = IsOpening opening id ⊎ IsMadeIn before id
 abbrev pub MutatesNot : ObjectId → Step → Type 0
 MutatesNot id y = has_id (filter_map mutable_id y.tx.inputs) id ≡ false
 
--- a shared object is not written by these
+-- if the input is shared, none of these steps writes its object
 abbrev pub IsLeftAlone : Input → List Step → Type 0
 IsLeftAlone (inputs.Pure bytes) between = Unit {0}
 IsLeftAlone (inputs.Owned r) between = Unit {0}
 IsLeftAlone (inputs.Immutable r) between = Unit {0}
 IsLeftAlone (inputs.Shared id initial mutable) between = Each (MutatesNot id) between
 
--- an opening object
+-- the object is an opening object, which no step before wrote if it is shared
 pub record IsOpened (opening : List Object) (before : List Step) (i : Input) (o : Object) : Type 0 where
   pub opened : Has opening o
   pub alone : IsLeftAlone i before
 
--- an object that an earlier step wrote
+-- the object was written by an earlier step, and by no step after that one if it is shared
 pub record IsWritten (before : List Step) (i : Input) (o : Object) : Type 0 where
   pub front : List Step
   pub writer : Step
@@ -71,7 +71,7 @@ pub record IsWritten (before : List Step) (i : Input) (o : Object) : Type 0 wher
   pub written : Has (gave writer).objects o
   pub alone : IsLeftAlone i back
 
--- where an object comes from; no step between writes it if it is shared
+-- where an object comes from: the opening objects, or an earlier step
 abbrev pub IsSource : List Object → List Step → Input → Object → Type 0
 IsSource opening before i o = IsOpened opening before i o ⊎ IsWritten before i o
 

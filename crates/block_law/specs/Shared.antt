@@ -44,7 +44,7 @@ pub record IsAsNamed (t : Transaction) (objects : List Object) (p : Object) : Ty
   pub id : before.id ≡ p.id
   pub share : shared_since before.owner ≡ shared_since p.owner
 
--- shared since this version, or not shared
+-- the owner is shared since this version, or not shared at all
 abbrev pub IsSharedFrom : ℕ → Owner → Type 0
 IsSharedFrom version (owner.Address a) = Unit {0}
 IsSharedFrom version (owner.Shared initial) = initial ≡ version
@@ -57,7 +57,8 @@ pub record IsNew (t : Transaction) (objects : List Object) (p : Object) : Type 0
   pub id : drawn_id (transaction_digest t) number ≡ p.id
   pub share : IsSharedFrom (version_of objects) p.owner
 
--- each written object is the one or the other, if all ids that the transaction names or draws are apart
+-- each written object is one that an input names (`IsAsNamed`) or a new one (`IsNew`), if all ids that the transaction
+-- names or draws are apart
 abbrev pub WritesStayShared : Type 0
 WritesStayShared =
     (t : Transaction) (objects : List Object) → fits t objects ≡ true → repeats id_eq (touched_ids t (execution t objects).effects) ≡ false →

@@ -14,7 +14,7 @@ use Rattle.block_law.specs.Names.{drawn_ids}
 abbrev pub NamesNot : ObjectId → Transaction → Type 0
 NamesNot id t = has_id (named_ids t) id ≡ false
 
--- an execution drew no such id
+-- an execution did not draw this id; true of a transaction without effects
 abbrev pub DrawsNot : ObjectId → Option Effects → Type 0
 DrawsNot id None = Unit {0}
 DrawsNot id (Some e) = has_id (drawn_ids e.tx e.created) id ≡ false

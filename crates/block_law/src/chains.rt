@@ -14,7 +14,7 @@ pub fn live_is_map()
     ensures { LiveIsMap }
 {}
 
-/// So the list of live objects is that of one thread's map.
+/// After executions of orderly steps, in any order, the list of live objects is that of one thread's map.
 pub fn live_list_is_map()
     ensures { LiveListIsMap }
 {}

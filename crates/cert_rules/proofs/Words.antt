@@ -25,7 +25,7 @@ others m n (w ∷ votes) most up =
 abbrev AreFound : List Sealed → List Sealed → Type 0
 AreFound votes = Each (λ (w : Sealed). vote_by votes w.member ≡ Some w)
 
--- and also after another member's word
+-- votes stay found under their members if a vote of another member is put before them
 found_behind : (v : Sealed) (votes ws : List Sealed) → Each (λ (w : Sealed). (v.member == w.member) ≡ false) ws → AreFound votes ws → AreFound (v ∷ votes) ws
 found_behind v votes [] other found = tt
 found_behind v votes (w ∷ ws) other found =
@@ -109,7 +109,7 @@ module _ (same : Sealed → Sealed → Bool) where
       go true is h = is
       go false is h = absurd (cc)
 
-  -- and no word differs from the first
+  -- if collecting finds the votes whole, none differs from the first
   pub none_differs : (stakes : List ℕ) (votes : List Sealed) → ascends (voters votes) ≡ true → collected same stakes (vote_by votes) (voters votes) ≡ whole → whole_or (first_differing votes) ≡ whole
   none_differs stakes votes up e = go (not (is_quorum stakes (weight stakes (voters votes)))) (first_differing votes) (sym (is_collected stakes votes up) ∙ e)
     where

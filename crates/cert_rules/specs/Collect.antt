@@ -47,7 +47,7 @@ vote_by votes m = first_of (vote_if m) votes
 abbrev pub same_vote : Sealed → Sealed → Bool
 same_vote v w = origins_eq (voted_origins v.statement) (voted_origins w.statement)
 
--- what the votes give together, each of its member
+-- what these votes give together, in the order of the voters
 unfoldable pub sealed_collected : List ℕ → List Sealed → Collected
 sealed_collected stakes votes = collected same_vote stakes (vote_by votes) (voters votes)
 
@@ -72,7 +72,8 @@ pub record AreSound (rules : Rules) (t : Transaction) (votes : List Sealed) : Ty
 
 -- ---- what the call answers against it
 
--- memory was refused, or this value if all agree, or the cause why they do not
+-- the call answers this value if all agree, else the cause that `Collected` names; if memory was refused nothing is
+-- said
 abbrev pub Gives : {X : Type 0} → Result X CollectRefusal → X → Collected → Type 0
 Gives (Ok x) value c = (c ≡ whole) × (x ≡ value)
 Gives (Err (refusal.Short weight total)) value c = c ≡ short weight total

@@ -13,7 +13,7 @@ use Rattle.cert_rules.specs.declared.acks.Finality.{Finality}
 use Rattle.cert_rules.specs.declared.votes.CollectRefusal.{CollectRefusal}
 use Rattle.cert_rules.specs.declared.votes.CollectRefusal.TheVariants as refusal
 
--- the digest of the effects that are acknowledged
+-- the effects digest of an acknowledgement; zeros for any other statement
 abbrev pub effects_in : Statement → Digest
 effects_in (statement.Vote epoch tx origins) = record { 0 = replicate 32 0 }
 effects_in (statement.End epoch) = record { 0 = replicate 32 0 }
@@ -27,7 +27,7 @@ acked (statement.End epoch) = None
 acked (statement.Checkpoint epoch number digest) = None
 acked (statement.Ack epoch tx effects) = Some (epoch, tx, effects)
 
--- those of the first
+-- the epoch, the transaction and the effects of the first acknowledgement
 abbrev pub first_acked : List Sealed → Option (ℕ × Digest × Digest)
 first_acked [] = None
 first_acked (s ∷ acks) = acked s.statement
@@ -47,7 +47,7 @@ pub record AreAcks (acks : List Sealed) : Type 0 where
 abbrev pub same_ack : Sealed → Sealed → Bool
 same_ack v w = digest_eq (effects_in v.statement) (effects_in w.statement)
 
--- what the acknowledgements give together, each of its member
+-- what these acknowledgements give together, in the order of their members
 unfoldable pub acks_collected : List ℕ → List Sealed → Collected
 acks_collected stakes acks = collected same_ack stakes (vote_by acks) (voters acks)
 
@@ -56,7 +56,8 @@ pub record IsFinality (acks : List Sealed) (f : Finality) : Type 0 where
   pub all : Each (λ (s : Sealed). s.statement ≡ statement.Ack f.epoch f.tx f.effects) acks
   pub members : f.members ≡ voters acks
 
--- memory was refused, or the finality if they are of a quorum and agree, or the cause why they make none
+-- the call answers the finality if a quorum agrees, else the cause that `Collected` names; if memory was refused
+-- nothing is said
 abbrev pub MakesFinal : Result Finality CollectRefusal → List Sealed → Collected → Type 0
 MakesFinal (Ok f) acks c = (c ≡ whole) × IsFinality acks f
 MakesFinal (Err (refusal.Short weight total)) acks c = c ≡ short weight total

@@ -46,7 +46,8 @@ fn acked(statement: &Statement) -> Option<(u64, Digest, Digest)>
     }
 }
 
-/// Those of the first acknowledgement. Takes no memory.
+/// The epoch, the transaction and the effects of the first acknowledgement; none of no acknowledgements. Takes no
+/// memory.
 fn first_acked(acks: &[Sealed]) -> Option<(u64, Digest, Digest)>
     ensures { result ≡ first_acked acks.now }
 {
@@ -56,7 +57,7 @@ fn first_acked(acks: &[Sealed]) -> Option<(u64, Digest, Digest)>
     }
 }
 
-/// Sealed acknowledgements, each of which is its member's only word.
+/// Sealed acknowledgements as [`LastWords`]: the only one of a member is its last.
 #[derive(Clone, Copy)]
 struct SealedAcks<'a> {
     acks: &'a [Sealed],

@@ -1,4 +1,5 @@
-//! What the words of members on something give together: their votes for a transaction, or their acknowledgements of one.
+//! Collecting: the last words of some members, be they votes for a transaction or acknowledgements of one, must be
+//! there, weigh a quorum and agree.
 
 ghost use Rattle.std.specs.Prelude.{◌≡◌, ℕ, Bool, Option, option_copied, option_map};
 ghost use Rattle.protocol_spec.specs.Chain.Collecting.{collected, differ, differs_among, lacks};
@@ -20,7 +21,7 @@ pub enum Collected {
     Whole,
 }
 
-/// The last word of each member on something.
+/// The last word of each member on one question: its vote for a transaction, or its acknowledgement of one.
 pub trait LastWords {
     type Word;
 
@@ -80,7 +81,7 @@ fn first_other<W: LastWords>(words: &W, first: u32, members: &[u32]) -> Option<u
     None
 }
 
-/// The first of these members, and the first one whose word differs from its. Takes no memory.
+/// The first of these members, and the first member after it whose word differs. Takes no memory.
 fn first_differing<W: LastWords>(words: &W, members: &[u32]) -> Option<(u32, u32)>
     ensures { option_map (λ (p : ℕ × ℕ). differ p.0 p.1) result ≡ differs_among W.same (W.reads words.now) members.now }
 {

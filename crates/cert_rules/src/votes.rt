@@ -52,7 +52,7 @@ pub fn same_origins(a: &[Option<Digest>], b: &[Option<Digest>]) -> bool
     a == b
 }
 
-/// The sealed word of a member among these. Takes no memory.
+/// The first of these sealed statements that is this member's. Takes no memory.
 pub(crate) fn vote_by(votes: &[Sealed], member: u32) -> Option<&Sealed>
     ensures { option_copied result ≡ vote_by votes.now member }
 {
@@ -66,7 +66,7 @@ pub(crate) fn vote_by(votes: &[Sealed], member: u32) -> Option<&Sealed>
     None
 }
 
-/// Sealed votes, each of which is its member's only word.
+/// Sealed votes as [`LastWords`]: the only one of a member is its last.
 #[derive(Clone, Copy)]
 struct SealedVotes<'a> {
     votes: &'a [Sealed],
@@ -162,7 +162,7 @@ pub fn collect(
     ensures exact { Gives result (certificate_of tx.now votes.now) (sealed_collected committee.now votes.now) }
     // Each vote is the statement that the seals of the certificate are over.
     ensures agree { IfOk result (λ cert. Each (λ vote. vote.statement ≡ vote_of cert) votes.now) }
-    // So it is valid if the votes are sealed well and the transaction has a valid shape.
+    // The certificate is valid if the votes are sealed well and the transaction has a valid shape.
     ensures valid { IfOk result (λ cert. (rules : Rules) → rules.stakes ≡ committee.now → AreSound rules tx.now votes.now → cert_refusal rules cert ≡ None) }
 {
     let members = voters(alloc, votes.as_slice())?;

@@ -29,11 +29,11 @@ abbrev pub check_of : Option (List ℕ) → Option Digest → Option Command
 check_of None tx = None
 check_of (Some stakes) tx = check_with stakes tx
 
--- what follows `check`
+-- the command of the two words after `check`: stakes and a digest
 unfoldable pub check_words : List ℕ → List ℕ → Option Command
 check_words stakes tx = check_of (stakes_in stakes) (digest_in tx)
 
--- `check`, stakes and a digest
+-- the `check` command that the words are, none if they are no such command: `check`, stakes and a digest
 abbrev pub check_in : List (List ℕ) → Option Command
 check_in (name ∷ stakes ∷ tx ∷ []) = if bytes_eq name (codes "check") then check_words stakes tx else None
 check_in words = None

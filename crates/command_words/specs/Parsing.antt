@@ -14,7 +14,7 @@ bare name = record {
 abbrev pub needed : List ℕ → Rule
 needed id = record (new_rule id) { required = true }
 
--- a command of one word more
+-- a command that takes one more word
 abbrev pub of_one : List ℕ → List ℕ → App
 of_one name id = with_rule (bare name) (needed id)
 
@@ -40,6 +40,6 @@ program =
     (of_one (codes "desk") (codes "N")).top)
     (of_one (codes "replay") (codes "M")).top
 
--- clap finds no fault with the words
+-- whether clap finds no fault with the words
 unfoldable pub is_taken : List (List ℕ) → Bool
 is_taken words = is_empty (fault_of program words)

@@ -36,7 +36,7 @@ replay_in words = None
 unfoldable pub command_in : List (List ℕ) → Option Command
 command_in words = first_some (run_in words ∷ make_in words ∷ check_in words ∷ follow_in words ∷ desk_in words ∷ replay_in words ∷ [])
 
--- its number is in its range
+-- the number in a command is in the range of its word
 abbrev pub IsInRange : Command → Type 0
 IsInRange command.Run = Unit {0}
 IsInRange (command.Make number) = (1 ≤ number) × (number ≤ 10000)
@@ -47,7 +47,8 @@ IsInRange (command.Replay member) = member ≤ 63
 
 -- ---- a journal file
 
--- the place of the last of three words or more, if the one before it is `in`
+-- the place of the word that names a journal file: the last one, if there are three words or more and the one before
+-- it is `in`
 abbrev pub place_in : List (List ℕ) → Option ℕ
 place_in words =
     if nat_le 3 (length words) && bytes_eq (slice_index_or words (length words - 2) []) (codes "in")

@@ -71,7 +71,7 @@ fn digest_in(word: &[u8]) -> Option<Digest>
     decoded(word)
 }
 
-/// What follows `check`.
+/// The command of the two words after `check`: stakes and a digest.
 #[tactic(auto, unfolding(crate::specs::CheckWords::check_words))]
 fn check_words(stakes: &[u8], tx: &[u8]) -> Option<Command>
     ensures is { result ≡ check_words stakes.now tx.now }
@@ -103,7 +103,7 @@ fn check_named(name: &str, stakes: &str, tx: &str) -> Option<Command>
     check_words(stakes.as_bytes(), tx.as_bytes())
 }
 
-/// `check`, stakes and a digest. Takes no memory.
+/// The `check` command that the words are, none if they are no such command. Takes no memory.
 pub(crate) fn check_of(words: &[String]) -> Option<Command>
     ensures is { result ≡ check_in (map string_bytes words.now) }
     ensures range { IfSome result IsInRange }

@@ -1,4 +1,4 @@
-//! The words as `clap` takes them.
+//! The description of the program's words to `clap`, and whether clap takes them.
 
 ghost use Rattle.std.specs.Prelude.{◌≡◌, IfOk, codes, false, is_some, map, true};
 ghost use Rattle.std.specs.String.{string_bytes};
@@ -30,7 +30,7 @@ fn needed<'a>(alloc: Global, id: &'a str) -> Arg<'a>
     Arg::new(alloc, id).required(true)
 }
 
-/// A command of one word more.
+/// A command that takes one more word.
 fn of_one<'a>(alloc: Global, name: &'a str, id: &'a str) -> Result<Command<'a>, AllocError>
     ensures app { IfOk result (λ c. app_of c ≡ of_one name.entry.now id.entry.now) }
     ensures local { IfOk result (λ c. (fields_of c).has_globals ≡ false) }
@@ -53,7 +53,7 @@ fn with_run<'a>(alloc: Global, program: Command<'a>) -> Result<Command<'a>, Allo
     program.subcommand(bare(alloc, "run"))
 }
 
-/// The program with a command of one word more.
+/// The program with one more command, which takes one more word.
 fn with_one<'a>(
     alloc: Global,
     program: Command<'a>,

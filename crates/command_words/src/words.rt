@@ -53,7 +53,7 @@ fn run_named(name: &str) -> Option<Command>
     }
 }
 
-/// `run`
+/// The `run` command, if the words are just `run`.
 fn run_of(words: &[String]) -> Option<Command>
     ensures is { result ≡ run_in (map string_bytes words.now) }
     ensures range { IfSome result IsInRange }
@@ -79,7 +79,7 @@ fn make_named(name: &str, number: &str) -> Option<Command>
     }
 }
 
-/// `make` and a number
+/// The `make` command, if the words are `make` and a number in its range.
 fn make_of(words: &[String]) -> Option<Command>
     ensures is { result ≡ make_in (map string_bytes words.now) }
     ensures range { IfSome result IsInRange }
@@ -105,7 +105,7 @@ fn follow_named(name: &str, number: &str) -> Option<Command>
     }
 }
 
-/// `follow` and a number
+/// The `follow` command, if the words are `follow` and a number in its range.
 fn follow_of(words: &[String]) -> Option<Command>
     ensures is { result ≡ follow_in (map string_bytes words.now) }
     ensures range { IfSome result IsInRange }
@@ -131,7 +131,7 @@ fn desk_named(name: &str, number: &str) -> Option<Command>
     }
 }
 
-/// `desk` and a number
+/// The `desk` command, if the words are `desk` and a number in its range.
 fn desk_of(words: &[String]) -> Option<Command>
     ensures is { result ≡ desk_in (map string_bytes words.now) }
     ensures range { IfSome result IsInRange }
@@ -157,7 +157,7 @@ fn replay_named(name: &str, number: &str) -> Option<Command>
     }
 }
 
-/// `replay` and a number
+/// The `replay` command, if the words are `replay` and a number in its range.
 fn replay_of(words: &[String]) -> Option<Command>
     ensures is { result ≡ replay_in (map string_bytes words.now) }
     ensures range { IfSome result IsInRange }

@@ -67,7 +67,7 @@ none_at_all posts place l end below most m d = elim (cases_lt m end) [
   | inr high ↦ past_all posts place l m (omega (arith, most, high)) d
 ]
 
--- and if none does at the links, none does at all
+-- if no member differs at any place of a link, all agree
 pub all_agree : (posts : List Post) (links : List Link) (end : ℕ) → ((p : ℕ) → p < end → NoneDiffers posts links p) → length links ≤ end → AllAgree posts links
 all_agree posts links end before most place l there = before place (let low = in_range links place l there in omega (arith, low, most)) l there
 

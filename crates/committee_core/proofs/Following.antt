@@ -172,7 +172,7 @@ kept-taken trust l s w sc now e (Some start) told told' given shows (lists, same
     (subst (λ (j : Option Journals). AddsLine (records_left (rules_in trust.accepts sc) sc (work_of sc e)) j told') same taken.kept) in
     (left.0, left.1, left.2 ∙ size, left.3)
 
--- and after one that was not taken
+-- after an event that was not taken, the lists are prefixes of the journals still
 pub kept-untaken : (trust : Trust) (l : SceneLaws trust) (s : Setting) (w : World) (sc : Scene) (e : Event) (start told told' : Option Journals)
     → Shows trust s w sc → TellsFrom start told w → AreAtLeast start (length sc.posts) → MayAddLine (records_left (rules_in trust.accepts sc) sc (work_of sc e)) told told' → FrontFrom start told' (happens s w e)
 kept-untaken trust l s w sc e None told told' shows tells wide left = tt

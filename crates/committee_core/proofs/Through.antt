@@ -42,7 +42,7 @@ Entries = List (ObjectId × Object)
 abbrev live : List Object → List (Option Object)
 live os = map (λ (o : Object). Some o) os
 
--- the same is found in both
+-- the list of entries and the map have the same object under each id, after these objects as well
 same-found : (os : List Object) (es : Entries) (m : Objects) → ((id : ObjectId) → find id_cmp id es ≡ get m id) → (id : ObjectId) → find id_cmp id (fold with_live es (live os)) ≡ get (fold with_object m os) id
 same-found [] es m same id = same id
 same-found (o ∷ os) es m same id =

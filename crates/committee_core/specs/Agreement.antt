@@ -10,15 +10,16 @@ use Rattle.world_core.specs.Looks.{checkpoint_at}
 use Rattle.committee_core.specs.declared.agreement.Agreement.{Agreement}
 use Rattle.committee_core.specs.declared.agreement.Agreement.TheVariants as agreement
 
--- an honest member that is up has built another checkpoint under the number of the link's place
+-- an honest member that is up has built a checkpoint with the number of this place, and it is another one than the
+-- link's
 abbrev pub Differs : List Post → ℕ → Link → ℕ → Type 0
 Differs posts place l m = (c : Checkpoint) × (checkpoint_at (slice_get posts m) place ≡ Some c) × (c ≡ l.checkpoint → ⊥)
 
--- at the link of this place, if there is one, no member does
+-- no member has built another checkpoint than the link at this place, if there is a link there
 abbrev pub NoneDiffers : List Post → List Link → ℕ → Type 0
 NoneDiffers posts links place = (l : Link) → slice_get links place ≡ Some l → (m : ℕ) → Differs posts place l m → ⊥
 
--- at the link of this place this member does, and none below it
+-- this is the lowest member that has built another checkpoint than the link at this place
 pub record IsLowest (posts : List Post) (links : List Link) (place member : ℕ) : Type 0 where
   pub link : Link
   pub there : slice_get links place ≡ Some link
@@ -33,7 +34,8 @@ pub record IsFirstDifference (posts : List Post) (links : List Link) (place memb
 abbrev pub AllAgree : List Post → List Link → Type 0
 AllAgree posts links = (place : ℕ) → NoneDiffers posts links place
 
--- what is answered of a chain: that it is refused, or certified and agrees or differs
+-- what each answer of `agrees` means: the chain is not certified (`Refused`), or it is, and no member differs from it
+-- (`Agrees`), or this is the first link with a member that does (`Differs`)
 abbrev pub IsAnswered : List ℕ → Accepting → List Post → List Link → Agreement → Type 0
 IsAnswered stakes accepts posts links (agreement.Refused (refused.Bad place cause)) = first_bad stakes accepts links ≡ Some (place, cause)
 IsAnswered stakes accepts posts links (agreement.Refused refused.OutOfMemory) = ⊥

@@ -84,11 +84,11 @@ digest_read (Err fault) = zero_digest
 abbrev pub call_line : Setting → World → DeskEntry → Line
 call_line s w e = line.Vote 0 (tx_name w (digest_read (read_signed e.bytes))) (vote_answered s w (vote_as e.reply))
 
--- likewise, by what is known under names
+-- the line of a vote of member 0, in terms of the directory of names alone (no whole world)
 abbrev pub call_line_by : Known → DeskEntry → Line
 call_line_by k e = vote_line_by k 0 (digest_read (read_signed e.bytes)) (vote_as e.reply)
 
--- the line of a call, after two spaces
+-- the bytes of the line of a call: two spaces, then the line
 abbrev pub call_text : Line → List ℕ
 call_text l = 32 ∷ 32 ∷ text_of l
 
@@ -96,7 +96,7 @@ call_text l = 32 ∷ 32 ∷ text_of l
 abbrev pub desk_head : ℕ → List ℕ
 desk_head calls = codes "desk 0: calls " ++ decimal calls ++ 10 ∷ []
 
--- `desk 0: calls C`, and the line of each call
+-- the bytes that `desk` writes for a history: the line `desk 0: calls C`, then the line of each call in order
 abbrev pub text_by : (DeskEntry → Line) → List DeskEntry → List ℕ
 text_by line_of entries = desk_head (length entries) ++ flat_map (λ (e : DeskEntry). call_text (line_of e)) entries
 
@@ -120,7 +120,8 @@ pub record IsVoted (trust : Trust) (callers : ℕ) (s : Schedule) (status : ℕ)
   pub nil : status ≡ 0
   pub is : text ≡ desk_text (setting_in trust s) (desk_world trust s) entries
 
--- how it ends, by whether all lines are `tx`, and whether member 0 is honest
+-- how `desk` ends for a schedule: refused if not all its lines are `tx`, then if member 0 is not honest, and else with
+-- a history
 abbrev pub EndsBy : Bool → Bool → Trust → ℕ → Schedule → ℕ → List ℕ → Type 0
 EndsBy false honest trust callers s status text = (status ≡ 8) × (text ≡ only_tx_text)
 EndsBy true false trust callers s status text = (status ≡ 8) × (text ≡ none_honest_text)
@@ -131,13 +132,13 @@ abbrev pub EndsAs : Trust → ℕ → Result Schedule Refused → ℕ → List �
 EndsAs trust callers (Ok s) status text = EndsBy (are_txs s) (is_honest (new_world (setting_in trust s)) 0) trust callers s status text
 EndsAs trust callers (Err r) status text = (status ≡ 3) × (text ≡ refusal_text r)
 
--- what it ends with was written, all or a part
+-- bytes with which `desk` may end were written, in the way that `Writes` says (all of them, or a prefix)
 pub record IsSaid (trust : Trust) (callers : ℕ) (read : Result Schedule Refused) (Writes : Writing) (status : ℕ) (held held' : Option (List ℕ)) : Type 0 where
   pub said : List ℕ
   pub ends : EndsAs trust callers read status said
   pub written : Writes held held' said
 
--- nothing was written, or a prefix
+-- nothing was written, or a prefix of bytes with which `desk` may end
 abbrev pub IsSaidCut : Trust → ℕ → Result Schedule Refused → Option (List ℕ) → Option (List ℕ) → Type 0
 IsSaidCut trust callers read held held' = Keeps held held' ⊎ ((status : ℕ) × IsSaid trust callers read AppendsFront status held held')
 
@@ -151,7 +152,7 @@ pub record SaysOfDesk (callers : ℕ) (Writes : Writing) (status : ℕ) (left le
 abbrev pub IsDeskCut : ℕ → Option (List ℕ) → Option (List ℕ) → Option (List ℕ) → Option (List ℕ) → Type 0
 IsDeskCut callers left left' held held' = Keeps held held' ⊎ ((status : ℕ) × SaysOfDesk callers AppendsFront status left left' held held')
 
--- how `desk N` ends: it leaves the keeper as it was
+-- how `desk N` may end, by its status; the keeper stays as it was
 pub record DeskEnds (callers : ℕ) (before now : Outside) (status : ℕ) : Type 0 where
   pub known : (status ≡ 0) ⊎ (status ≡ 3) ⊎ (status ≡ 4) ⊎ (status ≡ 5) ⊎ (status ≡ 7) ⊎ (status ≡ 8)
   pub whole : (status ≡ 0) ⊎ (status ≡ 3) ⊎ (status ≡ 8) → SaysOfDesk callers Appends status before.left now.left before.held now.held

@@ -16,7 +16,7 @@ use Rattle.committee_core.specs.Make.{MakeEnds}
 use Rattle.committee_core.specs.Outside.{Outside}
 use Rattle.committee_core.specs.Replay.{ReplayEnds}
 
--- how `run` ends
+-- how `run` may end, by its status
 pub record RunEnds (before now : Outside) (status : ℕ) : Type 0 where
   pub known : (status ≡ 0) ⊎ (status ≡ 3) ⊎ (status ≡ 4) ⊎ (status ≡ 5) ⊎ (status ≡ 6) ⊎ (status ≡ 7)
   pub whole : status ≡ 0 → IsWhole before.left now.left before.held now.held before.kept now.kept
@@ -28,7 +28,7 @@ pub record RunEnds (before now : Outside) (status : ℕ) : Type 0 where
   pub keep_fault : status ≡ 6 → (Rose before.keep_faults now.keep_faults × IsCut before.left now.left before.held now.held before.kept now.kept) ⊎ IsBad before.left now.left before.held now.held before.kept
   pub cut : (status ≡ 5) ⊎ (status ≡ 7) → IsCut before.left now.left before.held now.held before.kept now.kept
 
--- how `check` ends, with a committee of these stakes and this transaction: it leaves the keeper as it was
+-- how `check` may end for a committee of these stakes and this transaction, by its status; the keeper stays as it was
 pub record CheckEnds (stakes : List ℕ) (tx : Digest) (before now : Outside) (status : ℕ) : Type 0 where
   pub known : (status ≡ 0) ⊎ (status ≡ 4) ⊎ (status ≡ 5) ⊎ (status ≡ 7) ⊎ (status ≡ 8)
   pub said : (status ≡ 0) ⊎ (status ≡ 8) → Says stakes program_trust.accepts tx before.left now.left before.held now.held status
@@ -55,7 +55,7 @@ Ends (Some (command.Follow member)) before now status = FollowEnds member before
 Ends (Some (command.Desk callers)) before now status = DeskEnds callers before now status
 Ends (Some (command.Replay member)) before now status = ReplayEnds member before now status
 
--- the keeper has no record when it shows its lists, if the command is one that runs events
+-- before a command that runs events, a keeper that shows its lists has no records
 abbrev pub BeginsEmpty : Option Command → Option Journals → Type 0
 BeginsEmpty None kept = Unit {0}
 BeginsEmpty (Some command.Run) kept = AreEmpty kept

@@ -32,7 +32,7 @@ use Rattle.committee_core.specs.Outside.{Outside}
 use Rattle.committee_core.specs.Report.{refusal_text, setting_in}
 use Rattle.committee_core.specs.Ways.{MeetsBadRecord}
 
--- ---- what is said of a member
+-- ---- the verdict on a member
 
 -- a member that is asked for: whether the set-up makes it honest, and its state if it is honest and up
 pub record Asked : Type 0 where
@@ -50,28 +50,29 @@ asked_in s w m = record { honest = is_honest w m; state = state_in s (slice_get 
 abbrev pub follower_of : Known → List Object → Member → Result State CatchUpRefusal
 follower_of known opening m = caught_up known (opened opening) (before_epoch m.epoch (built m))
 
--- an honest member is up, and a follower gets so far
+-- the member is honest and up, and how far a follower gets with its checkpoints satisfies `Far`
 pub record ComesTo (known : Known) (opening : List Object) (asked : Asked) (Far : Member → Result State CatchUpRefusal → Type 0) : Type 0 where
   pub honest : asked.honest ≡ true
   pub member : Member
   pub stands : asked.state ≡ Some member
   pub far : Far member (follower_of known opening member)
 
--- it takes all of them, and then its live objects by ascending id are these
+-- the follower takes all checkpoints, and its live objects, by ascending id, satisfy `Live`
 pub record LeavesObjects (r : Result State CatchUpRefusal) (Live : List Object → Type 0) : Type 0 where
   pub state : State
   pub is : r ≡ Ok state
   pub live : Live (values state.course.map)
 
--- they are the objects with which the member opened its epoch; this many checkpoints, this epoch, this many objects
+-- the follower's objects are those with which the member opened its epoch; the numbers are those of the verdict
+-- `Equal`
 pub record IsEqual (m : Member) (checkpoints epoch objects : ℕ) (live : List Object) : Type 0 where
   pub same : live ≡ opening_objects m
   pub checkpoints_are : checkpoints ≡ length (before_epoch m.epoch (built m))
   pub epoch_is : epoch ≡ m.epoch
   pub objects_are : objects ≡ length live
 
--- what is true of a member, by the objects of the set-up and the transactions that are known by their digests: the first of these
--- that applies
+-- which verdict is the right one for a member, given the set-up's objects and the transactions that are known by their
+-- digests: the cases exclude each other
 abbrev pub IsVerdict : Known → List Object → Asked → Verdict → Type 0
 IsVerdict known opening asked verdict.NoHonest = asked.honest ≡ false
 IsVerdict known opening asked verdict.Down = (asked.honest ≡ true) × (asked.state ≡ None)
@@ -80,7 +81,7 @@ IsVerdict known opening asked (verdict.Differs number place) = ComesTo known ope
 IsVerdict known opening asked verdict.Unequal = ComesTo known opening asked (λ m r. LeavesObjects r (λ live. live ≡ opening_objects m → ⊥))
 IsVerdict known opening asked (verdict.Equal checkpoints epoch objects) = ComesTo known opening asked (λ m r. LeavesObjects r (IsEqual m checkpoints epoch objects))
 
--- the status and the line of each
+-- the status of `follow` for each verdict; below, its words and its line
 abbrev pub verdict_status : Verdict → ℕ
 verdict_status verdict.NoHonest = 8
 verdict_status verdict.Down = 8
@@ -100,7 +101,7 @@ verdict_words (verdict.Equal checkpoints epoch objects) = codes "equal checkpoin
 abbrev pub verdict_text : ℕ → Verdict → List ℕ
 verdict_text m v = codes "follow " ++ decimal m ++ codes ": " ++ verdict_words v ++ 10 ∷ []
 
--- the follower took all and has the member's objects, or no follower was asked for
+-- a verdict that finds no fault: the follower took all and has the member's objects, or there was no member to follow
 abbrev pub IsThrough : Verdict → Type 0
 IsThrough verdict.NoHonest = Unit {0}
 IsThrough verdict.Down = Unit {0}
@@ -117,7 +118,7 @@ asked_at p = record { honest = honest_post p; state = option_map (λ (seat : Sea
 abbrev pub asked_up : Member → Asked
 asked_up m = record { honest = true; state = Some m }
 
--- what is said of a member by a follower that took all
+-- which verdict is the right one for a member once a follower took all its checkpoints: the objects are equal or not
 abbrev pub IsVerdictFrom : Member → State → Verdict → Type 0
 IsVerdictFrom m s verdict.NoHonest = ⊥
 IsVerdictFrom m s verdict.Down = ⊥
@@ -129,7 +130,8 @@ IsVerdictFrom m s (verdict.Equal checkpoints epoch objects) =
 
 -- ---- after the run of a text
 
--- what is true of a member after all lines of a schedule; the known transactions are those that lines made
+-- which verdict is the right one for a member after all lines of a schedule; the known transactions are those that
+-- lines made
 abbrev pub IsVerdictBehind : Schedule → ℕ → Verdict → Type 0
 IsVerdictBehind s m v =
     let at : Setting = setting_in program_trust s in
@@ -150,7 +152,7 @@ pub record Finds (text : List ℕ) (m : ℕ) (kept kept' : Option Journals) (v :
   pub journals : KeepsRun program_trust schedule kept kept'
   pub holds : HoldsAlong schedule
 
--- the line of its verdict, which has this status, was written
+-- the line of a verdict was written, and this is the verdict's status
 abbrev pub SaysVerdict : ℕ → Verdict → ℕ → Option (List ℕ) → Option (List ℕ) → Type 0
 SaysVerdict m v status held held' = (verdict_status v ≡ status) × Appends held held' (verdict_text m v)
 
@@ -165,13 +167,14 @@ pub record Follows (m status : ℕ) (left left' held held' : Option (List ℕ)) 
   pub read : ReadsText longest_text left left' text
   pub says : SaysOf text m status held held' kept kept'
 
--- a text was cut: its run, or the writing of a line. The run was whole only if no count of the keeper's faults rose
+-- how far `follow` came with a text when it broke off: in the run, in the line of the verdict (then the keeper's count
+-- of faults had not risen), or in the line of a refusal
 pub data FrontOf (text : List ℕ) (m : ℕ) (held held' : Option (List ℕ)) (kept kept' : Option Journals) (HasRisen : Type 0) : Type 0 where
   unrun : (s : Schedule) → schedule_of text ≡ Ok s → KeepsFronts program_trust s kept kept' → Keeps held held' → FrontOf text m held held' kept kept' HasRisen
   unsaid : (v : Verdict) → Finds text m kept kept' v → (HasRisen → ⊥) → AppendsFront held held' (verdict_text m v) → FrontOf text m held held' kept kept' HasRisen
   unrefused : (r : Refused) → schedule_of text ≡ Err r → KeepsJournals kept kept' → AppendsFront held held' (refusal_text r) → FrontOf text m held held' kept kept' HasRisen
 
--- nothing was written and kept, or a prefix of what was to be
+-- `follow` broke off: before it read a whole text, when nothing is written or kept, or at a later point (`FrontOf`)
 abbrev pub FollowsFront : ℕ → Option (List ℕ) → Option (List ℕ) → Option (List ℕ) → Option (List ℕ) → Option Journals → Option Journals → Type 0 → Type 0
 FollowsFront m left left' held held' kept kept' HasRisen =
     (Keeps held held' × KeepsJournals kept kept') ⊎ ((text : List ℕ) × ReadsText longest_text left left' text × FrontOf text m held held' kept kept' HasRisen)
@@ -184,7 +187,7 @@ pub record FollowsBad (left left' : Option (List ℕ)) (kept : Option Journals) 
   pub is : schedule_of text ≡ Ok schedule
   pub meets : MeetsBadRecord program_trust schedule Appends None None kept
 
--- how `follow M` ends
+-- how `follow M` may end, by its status
 pub record FollowEnds (m : ℕ) (before now : Outside) (status : ℕ) : Type 0 where
   pub known : (status ≡ 0) ⊎ (status ≡ 3) ⊎ (status ≡ 4) ⊎ (status ≡ 5) ⊎ (status ≡ 6) ⊎ (status ≡ 7) ⊎ (status ≡ 8)
   pub whole : (status ≡ 0) ⊎ (status ≡ 8) → Follows m status before.left now.left before.held now.held before.kept now.kept

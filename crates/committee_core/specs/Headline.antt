@@ -16,7 +16,7 @@ use Rattle.committee_core.specs.Ways.{MeetsBadRecord, RunsWhole, TextCut}
 unfoldable pub program_trust : Trust
 program_trust = keyed program_secret
 
--- the headline, after each prefix of the lines, whether or not the run got that far
+-- the headline holds after each prefix of the schedule's lines, whether or not the run got that far
 abbrev pub HoldsAlong : Schedule → Type 0
 HoldsAlong s = (front rest : List Event) → s.events ≡ front ++ rest → IsPromised (setting_in program_trust s) front
 
@@ -57,6 +57,6 @@ pub record WritesFront (left left' held held' : Option (List ℕ)) (kept kept' :
   pub cut : TextCut program_trust (schedule_of text) held held' kept kept'
   pub holds : (s : Schedule) → schedule_of text ≡ Ok s → HoldsAlong s
 
--- a run that was cut: nothing was written and kept, or a prefix
+-- a run that broke off: nothing was written and kept, or a prefix of what was to be
 abbrev pub IsCut : Option (List ℕ) → Option (List ℕ) → Option (List ℕ) → Option (List ℕ) → Option Journals → Option Journals → Type 0
 IsCut left left' held held' kept kept' = (Keeps held held' × KeepsJournals kept kept') ⊎ WritesFront left left' held held' kept kept'

@@ -38,7 +38,7 @@ pub data IsRefusedBy (words : List (List ℕ)) (told : Option History) : List �
   bad_member_at : (at : ℕ) → IfTold told (λ h. bad_member most_members 0 (counted h.now.reads) ≡ Some at) → IsRefusedBy words told (bad_member_text at)
   is_not_empty : names_replay words ≡ false → AreOfMembers told → IfTold told (λ h. counted h.now.reads ≡ [] → ⊥) → IsRefusedBy words told not_empty_text
 
--- the member that an opening names, if it names one, by the place of its gate
+-- `P` holds of the place of the gate that a refused opening names; false of the refusals that name none
 abbrev pub IsBadMember : OpenRefusal → (ℕ → Type 0) → Type 0
 IsBadMember (open_refusal.BadMember at) P = P at
 IsBadMember open_refusal.DiskFault P = ⊥
@@ -52,11 +52,12 @@ pub record IsOfCall (opened faults : ℕ) (records : List Record) (file : List �
   pub counts : (counted file ≡ records) ⊎ (Rose opened faults × (more : Record) × (counted file ≡ records ++ more ∷ []))
   pub members : bad_member most_members 0 (counted file) ≡ None
 
--- so it is in each file that a crash may leave now
+-- `IsOfCall` holds of each file that a crash may leave now
 abbrev pub LeavesOfCall : ℕ → ℕ → List Record → History → Type 0
 LeavesOfCall opened faults records h = (image : List ℕ) → IsImage h.now image → IsOfCall opened faults records image
 
--- a disk that shows its bytes holds these lists, in what reads give and in what a crash may leave; one that does not shows none
+-- the disk holds the lists `lists`, both in what it reads now and in each file that a crash may leave; a disk that
+-- does not show its bytes has no observable lists
 abbrev pub HoldsOfCall : ℕ → ℕ → Option History → Option Journals → Type 0
 HoldsOfCall opened faults None lists = lists ≡ None
 HoldsOfCall opened faults (Some h) lists =
@@ -76,19 +77,20 @@ pub record IsFull (words : List (List ℕ)) (told told' : Option History) (end :
   pub write_fault : status ≡ 5 → Rose before.write_faults now.write_faults
   pub cut : (status ≡ 5) ⊎ (status ≡ 7) → AppendsFront before.held now.held not_empty_text
 
--- in each file that a crash may leave now, the lists of the records that count are lists with which the command may have ended so
+-- a crash now would leave a file whose lists are ones with which the command may have ended in this way, whichever
+-- file it is
 abbrev pub LeavesEndings : Option Command → Option History → Outside → Outside → ℕ → Type 0
 LeavesEndings command None before now status = Unit {0}
 LeavesEndings command (Some h) before now status = (image : List ℕ) → IsImage h.now image → Ends command before (record now { kept = Some (journals_of most_members (counted image)) }) status
 
--- the command ended, and the disk holds the lists that it left
+-- the command ended as over any keeper with these lists, and the disk holds them
 pub record EndsOver (command : Option Command) (told' : Option History) (before now : Outside) (status : ℕ) : Type 0 where
   pub lists : Option Journals
   pub ends : Ends command before (record now { kept = lists }) status
   pub holds : HoldsOfCall before.keep_faults now.keep_faults told' lists
   pub each : LeavesEndings command told' before now status
 
--- the words may run over the records before the gate
+-- the words may run over the records before the gate: they are a `replay`, or there are no such records
 abbrev pub MayRun : List (List ℕ) → Option History → ℕ → Type 0
 MayRun words told end = (names_replay words ≡ true) ⊎ IfTold told (λ h. records_to h.now.reads end ≡ [])
 
@@ -125,6 +127,6 @@ pub record IsCalled (words : List (List ℕ)) (told told' : Option History) (bef
 abbrev pub EndsInFile : List (List ℕ) → Option History → Option History → Outside → Outside → ℕ → Type 0
 EndsInFile words told told' before now status = IsUncalled words told told' before now status ⊎ IsCalled words told told' before now status
 
--- what the disk shows as a keeper of 64 members
+-- the disk's lists as those of a keeper of 64 members, if it shows its bytes
 abbrev pub kept_in : Option History → Option Journals
 kept_in told = lists_in most_members told

@@ -10,12 +10,12 @@ use Rattle.world_spec.specs.Run.{journal, world_after}
 use Rattle.world_spec.specs.SceneWorlds.{AreKeepable, IsFront, Restarts, is_restart}
 use Rattle.committee_core.specs.Report.{setting_in}
 
--- lists are observable
+-- the keeper's lists are observable
 abbrev pub IsTold : Option Journals → Type 0
 IsTold None = ⊥
 IsTold (Some lists) = Unit {0}
 
--- observable lists have no record
+-- observable lists have no records; true if lists are not observable
 abbrev pub AreEmpty : Option Journals → Type 0
 AreEmpty None = Unit {0}
 AreEmpty (Some lists) = (m : ℕ) → journal_of lists m ≡ []
@@ -33,12 +33,12 @@ abbrev pub KeepsRun : Trust → Schedule → Option Journals → Option Journals
 KeepsRun trust s None now = Unit {0}
 KeepsRun trust s (Some old) now = (lists : Journals) × (now ≡ Some lists) × ((m : ℕ) → journal_of lists m ≡ journal (setting_in trust s) s.events m)
 
--- each is a prefix of its member's journal
+-- observable lists stay observable, and each is a prefix of its member's journal of the schedule's run
 abbrev pub KeepsFronts : Trust → Schedule → Option Journals → Option Journals → Type 0
 KeepsFronts trust s None now = Unit {0}
 KeepsFronts trust s (Some old) now = (lists : Journals) × (now ≡ Some lists) × ((m : ℕ) → IsFront (journal_of lists m) (journal (setting_in trust s) s.events m))
 
--- lists that are observable are as many as this at least
+-- there are at least `n` lists, if lists are observable
 abbrev pub AreAtLeast : Option Journals → ℕ → Type 0
 AreAtLeast None n = Unit {0}
 AreAtLeast (Some lists) n = n ≤ length lists
@@ -47,6 +47,6 @@ AreAtLeast (Some lists) n = n ≤ length lists
 abbrev pub StartsAlong : Setting → List Event → Type 0
 StartsAlong s events = (front back : List Event) → events ≡ front ++ back → AreKeepable (world_after s front).sequences → Restarts s (world_after s front)
 
--- so it is in the run of each text that is read
+-- in the run of each text that is a schedule, every member starts from its journal all along (`StartsAlong`)
 abbrev pub StartsWhereRead : Trust → Type 0
 StartsWhereRead trust = (text : List ℕ) (s : Schedule) → schedule_of text ≡ Ok s → StartsAlong (setting_in trust s) s.events

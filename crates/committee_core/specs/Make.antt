@@ -39,7 +39,7 @@ pub record RunsMade (number : ℕ) (kept kept' : Option Journals) (sc : Scene) :
   pub sums : told.sums_at (slice_get sc.posts 0) ≡ Some (told.sums_of member)
   pub journals : KeepsRun program_trust schedule kept kept'
 
--- its records were kept, and these are the sums of its member 0
+-- the made schedule ran, its records were kept, and these are the sums of its member 0
 pub record IsSummed (number : ℕ) (kept kept' : Option Journals) (given : sums_type.Sums) : Type 0 where
   pub schedule : Schedule
   pub member : Member
@@ -47,7 +47,7 @@ pub record IsSummed (number : ℕ) (kept kept' : Option Journals) (given : sums_
   pub is : given ≡ told.sums_of member
   pub journals : KeepsRun program_trust schedule kept kept'
 
--- prefixes of its records were kept
+-- the made schedule ran for a while: prefixes of its records were kept
 pub record KeepsMade (number : ℕ) (kept kept' : Option Journals) : Type 0 where
   pub schedule : Schedule
   pub member : Member
@@ -70,7 +70,7 @@ pub record MakesFront (number : ℕ) (held held' : Option (List ℕ)) (kept kept
   pub written : AppendsFront held held' (summary_text number (sums_of member))
   pub journals : KeepsFronts program_trust schedule kept kept'
 
--- how `make N` ends: the source is not touched
+-- how `make N` may end, by its status; the source is not touched
 pub record MakeEnds (number : ℕ) (before now : Outside) (status : ℕ) : Type 0 where
   pub known : (status ≡ 0) ⊎ (status ≡ 5) ⊎ (status ≡ 6) ⊎ (status ≡ 7)
   pub unread : (now.left ≡ before.left) × (now.read_faults ≡ before.read_faults)

@@ -37,36 +37,40 @@ pub record Ending : Type 0 where
   pub status : ℕ
   pub text : List ℕ
 
--- the member starts in a state, or a record is bad. (A definition never runs out of memory.)
+-- the ending after a start from the member's records: the lines of the member's state, or of the bad record. (A
+-- definition never runs out of memory.)
 abbrev pub start_ending : Trust → Schedule → ℕ → ℕ → Result Member StartRefusal → Ending
 start_ending trust s m count (Ok state) = record { status = 0; text = lines_text (restarted_lines trust s m count state) }
 start_ending trust s m count (Err (no_start.BadRecord place why)) = record { status = 6; text = bad_record_text m place }
 start_ending trust s m count (Err no_start.OutOfMemory) = record { status = 7; text = [] }
 
--- a member that the set-up makes honest starts from its records
+-- the ending for a schedule: member `m` starts from these records if the set-up makes it honest, else the line says
+-- that it does not
 abbrev pub member_ending : Trust → Schedule → ℕ → List (List ℕ) → Ending
 member_ending trust s m records =
     if is_honest (new_world (setting_in trust s)) m
     then start_ending trust s m (length records) (started (setting_in trust s).rules (setting_in trust s).opening records)
     else record { status = 8; text = no_member_text m }
 
--- and a text that is not a schedule is refused
+-- the ending for any text: one that is not a schedule is refused
 abbrev pub text_ending : Trust → ℕ → Result Schedule Refused → List (List ℕ) → Ending
 text_ending trust m (Ok s) records = member_ending trust s m records
 text_ending trust m (Err r) records = record { status = 3; text = refusal_text r }
 
--- a way of writing
+-- a relation between what the sink held before, what it holds now, and the bytes that were to be written (`Appends`:
+-- all were; `AppendsFront`: a prefix)
 abbrev pub Writing : Type 1
 Writing = Option (List ℕ) → Option (List ℕ) → List ℕ → Type 0
 
--- an ending by records of the member, which are those of its list if lists are observable
+-- the replay ends with this status, and its bytes were written as `Writes` says; it starts from records that are the
+-- member's list, if lists are observable
 pub record Says (ending : List (List ℕ) → Ending) (m : ℕ) (Writes : Writing) (status : ℕ) (kept : Option Journals) (held held' : Option (List ℕ)) : Type 0 where
   pub records : List (List ℕ)
   pub are : IsJournal kept m records
   pub ends : (ending records).status ≡ status
   pub written : Writes held held' (ending records).text
 
--- nothing was written, or a prefix of an ending
+-- nothing was written, or a prefix of the bytes of an ending
 abbrev pub SaysFront : (List (List ℕ) → Ending) → ℕ → Option Journals → Option (List ℕ) → Option (List ℕ) → Type 0
 SaysFront ending m kept held held' = Keeps held held' ⊎ ((status : ℕ) × Says ending m AppendsFront status kept held held')
 
@@ -76,7 +80,7 @@ pub record SaysOfText (m : ℕ) (Saying : (List (List ℕ) → Ending) → Type 
   pub read : ReadsText longest_text left left' text
   pub says : Saying (text_ending program_trust m (schedule_of text))
 
--- how `replay M` ends
+-- how `replay M` may end, by its status
 pub record ReplayEnds (m : ℕ) (before now : Outside) (status : ℕ) : Type 0 where
   pub known : (status ≡ 0) ⊎ (status ≡ 3) ⊎ (status ≡ 4) ⊎ (status ≡ 5) ⊎ (status ≡ 6) ⊎ (status ≡ 7) ⊎ (status ≡ 8)
   pub stays : KeepsJournals before.kept now.kept

@@ -9,7 +9,7 @@ use Rattle.schedule_text.specs.Schedule.{Refused}
 use Rattle.world_spec.specs.Setting.{Setting, Trust, setting_of}
 use Rattle.world_spec.specs.Run.{report_of}
 
--- what the set-up lines of a schedule fix
+-- the setting of a schedule: what its set-up lines fix for the whole run
 abbrev pub setting_in : Trust → Schedule → Setting
 setting_in trust s = setting_of trust s.setup
 

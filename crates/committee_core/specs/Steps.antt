@@ -1,4 +1,4 @@
--- What the run of one event says, in terms of what the code sees of the world.
+-- What the run of one event leaves, in terms of the scene (the code's view of the world).
 use Rattle.std.specs.Prelude.{◌≡◌, ℕ, true, false, List, Option, Ok, slice_get}
 use Rattle.std.specs.Io.KnownBytes.{Appends, Keeps}
 use Rattle.outside.specs.Lists.{Journals}
@@ -22,20 +22,20 @@ pub record IsTaken (trust : Trust) (e : Event) (sc now : Scene) (told told' : Op
   pub keepable : AreKeepable sc.sequences
   pub restart : (m : ℕ) → e ≡ event.Restart m → RestartsAs trust.accepts told m sc now (slice_get sc.posts m) (Ok given)
 
--- and its lines were written
+-- the event was taken, and its lines were written
 pub record Passes (trust : Trust) (e : Event) (sc now : Scene) (told told' : Option Journals) (held held' : Option (List ℕ)) : Type 0 where
   pub given : List Line
   pub taken : IsTaken trust e sc now told told' given
   pub written : Appends held held' (lines_text given)
 
--- a prefix of its lines was written
+-- the event was taken, but of its lines only a prefix was written
 pub record IsUnwritten (trust : Trust) (e : Event) (sc : Scene) (told told' : Option Journals) (held held' : Option (List ℕ)) : Type 0 where
   pub now : Scene
   pub given : List Line
   pub taken : IsTaken trust e sc now told told' given
   pub written : AppendsFront held held' (lines_text given)
 
--- the event was not taken
+-- the event was not completed: nothing is written for it, and it left some of its records or none
 pub record IsUntaken (trust : Trust) (e : Event) (sc : Scene) (told told' : Option Journals) (held held' : Option (List ℕ)) : Type 0 where
   pub kept : MayAddLine (records_left (rules_in trust.accepts sc) sc (work_of sc e)) told told'
   pub written : Keeps held held'
@@ -46,14 +46,15 @@ pub record ReadsBad (trust : Trust) (e : Event) (sc : Scene) (told : Option Jour
   pub keepable : AreKeepable sc.sequences
   pub stays : (m : ℕ) → e ≡ event.Restart m → StaysDown trust.accepts told m sc member place
 
--- and what is written of the line that says so
+-- the event restarts a member with a bad record, and the line that says so was written as `Writes` says
 pub record IsBadRecord (trust : Trust) (e : Event) (sc : Scene) (told : Option Journals) (Writes : Option (List ℕ) → Option (List ℕ) → List ℕ → Type 0) (held held' : Option (List ℕ)) : Type 0 where
   pub member : ℕ
   pub place : ℕ
   pub reads : ReadsBad trust e sc told member place
   pub written : Writes held held' (bad_record_text member place)
 
--- a run that ends in the event
+-- how a run may end in this event: it was not taken, its lines were not all written, or the line of its bad record was
+-- not
 pub data IsCutAt (trust : Trust) (e : Event) (sc : Scene) (told told' : Option Journals) (held held' : Option (List ℕ)) : Type 0 where
   untaken : IsUntaken trust e sc told told' held held' → IsCutAt trust e sc told told' held held'
   unwritten : IsUnwritten trust e sc told told' held held' → IsCutAt trust e sc told told' held held'

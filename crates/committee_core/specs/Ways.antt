@@ -1,4 +1,5 @@
--- How the run of a schedule ends: what is written and kept then. Each is about the bytes and the lists before and after it.
+-- The ways in which the run of a schedule ends: each says what is written (`held` before, `held'` after) and kept
+-- (`kept`, `kept'`).
 use Rattle.std.specs.Prelude.{◌≡◌, ◌⊎◌, ℕ, List, ◌∷◌, ◌++◌, Option, None, Result, Ok, Err}
 use Rattle.std.specs.Io.KnownBytes.{Appends}
 use Rattle.outside.specs.Lists.{Journals, KeepsJournals}
@@ -19,7 +20,7 @@ use Rattle.committee_core.specs.Journals.{KeepsFronts, KeepsRun, ReadsBack}
 use Rattle.committee_core.specs.Report.{lines_text, refusal_text, report_text, setting_in}
 use Rattle.outside.specs.Streams.{AppendsFront}
 
--- all events ran
+-- all events ran: the whole report is written, and the lists are the members' journals
 pub record RunsWhole (trust : Trust) (s : Schedule) (held held' : Option (List ℕ)) (kept kept' : Option Journals) : Type 0 where
   pub written : ReadsBack kept s.events → Appends held held' (report_text trust s)
   pub journals : KeepsRun trust s kept kept'
@@ -28,7 +29,7 @@ pub record RunsWhole (trust : Trust) (s : Schedule) (held held' : Option (List �
 abbrev pub ShowsRun : Trust → Schedule → Option Journals → Scene → Type 0
 ShowsRun trust s kept sc = ReadsBack kept s.events → Shows trust (setting_in trust s) (world_after (setting_in trust s) s.events) sc
 
--- the run was cut
+-- the run broke off: a prefix of the report is written, and the lists are prefixes of the members' journals
 pub record RunsFront (trust : Trust) (s : Schedule) (held held' : Option (List ℕ)) (kept kept' : Option Journals) : Type 0 where
   pub written : ReadsBack kept s.events → AppendsFront held held' (report_text trust s)
   pub journals : KeepsFronts trust s kept kept'
@@ -55,11 +56,11 @@ pub record MeetsBadRecord (trust : Trust) (s : Schedule) (Writes : Option (List 
   pub bad : ReadsBack kept front → HasBad (setting_in trust s) place
   pub written : ReadsBack kept front → Writes held held' (lines_text (report (setting_in trust s) front) ++ bad_record_text member place)
 
--- a run that did not end: cut, or cut in the line that says that a record is bad
+-- the run broke off, at any point or in the line that says that a record is bad
 abbrev pub RunsCut : Trust → Schedule → Option (List ℕ) → Option (List ℕ) → Option Journals → Option Journals → Type 0
 RunsCut trust s held held' kept kept' = RunsFront trust s held held' kept kept' ⊎ MeetsBadRecord trust s AppendsFront held held' kept
 
--- a text whose run or refusal did not end
+-- a text whose run, or whose refusal, broke off
 abbrev pub TextCut : Trust → Result Schedule Refused → Option (List ℕ) → Option (List ℕ) → Option Journals → Option Journals → Type 0
 TextCut trust (Ok s) held held' kept kept' = RunsCut trust s held held' kept kept'
 TextCut trust (Err r) held held' kept kept' = AppendsFront held held' (refusal_text r) × KeepsJournals kept kept'

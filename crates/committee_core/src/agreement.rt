@@ -20,7 +20,7 @@ use std::alloc::Global;
 use wire_bcs::OutOfMemory;
 use world_core::World;
 
-/// What is said of a chain beside a world.
+/// What a chain is beside a world: refused, or certified, and then equal to what the world's members built or not.
 #[derive(Clone, Copy, Debug, PartialEq, Eq)]
 pub enum Agreement {
     /// It is not certified.
@@ -85,7 +85,7 @@ fn differs(world: &World, place: u64, link: &Link, member: u32) -> bool
     }
 }
 
-/// The lowest member that differs at this link.
+/// The lowest member that has built another checkpoint than this link's; none if no member has.
 fn lowest_at(world: &World, place: u64, link: &Link) -> Option<u32>
     ensures none { result ≡ None → (m : ℕ) → Differs world.now.posts place link.now m → ⊥ }
     ensures some { IfSome result (λ m. Differs world.now.posts place link.now m) }
@@ -106,7 +106,8 @@ fn link_at(links: &[Link], place: usize) -> Option<&Link>
     links.get(place)
 }
 
-/// The lowest member that differs at the link of this place, if there is one.
+/// The lowest member that has built another checkpoint than the link at this place; none if no member has, or there is
+/// no link.
 fn lowest_in(world: &World, links: &[Link], place: usize) -> Option<u32>
     ensures none { result ≡ None → NoneDiffers world.now.posts links.now place }
     ensures some { IfSome result (IsLowest world.now.posts links.now place) }

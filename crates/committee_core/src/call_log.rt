@@ -84,7 +84,8 @@ impl<F: Disk, O: Opening> CallLog<F, O> {
     }
 }
 
-/// The append of a record of a member that has so many. More than a count can say are reported as out of memory.
+/// The record of an append that is about to begin, of a member that has `kept` records. Out of memory also if the
+/// count would pass 2^64 - 1.
 fn begin(alloc: Global, member: u32, kept: u64, bytes: &[u8]) -> Result<Unfinished, OutOfMemory>
     ensures { IfOk result (λ begun. begun ≡ record { member = member; count = kept + 1; bytes = bytes.now }) }
 {
@@ -99,7 +100,7 @@ fn begin(alloc: Global, member: u32, kept: u64, bytes: &[u8]) -> Result<Unfinish
     })
 }
 
-/// What is left of an append that began, by what the log answered.
+/// The unfinished record after the log's answer to an append: the record itself if the disk failed, else none.
 fn left_of(begun: Unfinished, answer: &Result<(), LogRefusal>) -> Option<Unfinished>
     ensures { result ≡ unfinished_behind begun answer.now }
 {
@@ -109,7 +110,7 @@ fn left_of(begun: Unfinished, answer: &Result<(), LogRefusal>) -> Option<Unfinis
     }
 }
 
-/// What a call is answered.
+/// The keeper's answer for the log's: a fault of the disk is a fault, and every other refusal counts as out of memory.
 fn passed(answer: Result<(), LogRefusal>) -> Result<(), OutFault>
     ensures { result ≡ run_answer answer }
 {

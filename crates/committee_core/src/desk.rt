@@ -239,7 +239,7 @@ fn world_of<R: Threads + Sync, S: MakesSeals>(
     }
 }
 
-/// A line as it is, with its status.
+/// An ending that is this one line, with this status.
 fn said_line(alloc: Global, status: u8, line: &[u8]) -> Result<Said, OutOfMemory>
     ensures { IfOk result (λ said. said ≡ record { status = status; text = line.now }) }
 {
@@ -249,7 +249,8 @@ fn said_line(alloc: Global, status: u8, line: &[u8]) -> Result<Said, OutOfMemory
     })
 }
 
-/// What is said in the world of a schedule whose lines are all `tx`.
+/// The ending for the world of a schedule whose lines are all `tx`: a history of calls, or that member 0 is not
+/// honest.
 fn said_in<R: Threads + Wait + Sync, S: MakesSeals + Drop + Send + Sync>(
     rt: &R,
     alloc: Global,
@@ -272,7 +273,7 @@ fn said_in<R: Threads + Wait + Sync, S: MakesSeals + Drop + Send + Sync>(
     Ok(Said { status: DONE, text })
 }
 
-/// What is said of a schedule.
+/// The ending for a schedule: a history of calls, or why its desk takes no callers.
 fn said_of<R: Threads + Wait + Sync, S: MakesSeals + Drop + Send + Sync>(
     rt: &R,
     alloc: Global,
@@ -313,7 +314,7 @@ fn print_refused(line: u64, cause: u8, text: &mut Seq<u8>) -> Result<(), OutOfMe
     printed
 }
 
-/// Why a text is not a schedule.
+/// The ending for a text that is not a schedule: the line that says why.
 fn said_refused(alloc: Global, line: u64, cause: u8) -> Result<Said, OutOfMemory>
     ensures { IfOk result (λ said. said ≡ record { status = 3; text = text_of (report_line.Refused line cause) }) }
 {
@@ -325,7 +326,7 @@ fn said_refused(alloc: Global, line: u64, cause: u8) -> Result<Said, OutOfMemory
     })
 }
 
-/// What is said of a text.
+/// The ending for any text.
 fn said_of_text<R: Threads + Wait + Sync, S: MakesSeals + Drop + Send + Sync>(
     rt: &R,
     alloc: Global,
@@ -345,7 +346,7 @@ fn said_of_text<R: Threads + Wait + Sync, S: MakesSeals + Drop + Send + Sync>(
     }
 }
 
-/// Writes what is said. Answers the status.
+/// Writes the bytes of an ending. Answers its status if they were written, else 5 (write fault) or 7 (out of memory).
 fn say<K: Sink>(said: &Said, sink: &mut K) -> u8
     requires { (said.now.status ≡ 0) ⊎ (said.now.status ≡ 3) ⊎ (said.now.status ≡ 8) }
     ensures known { (result ≡ said.now.status) ⊎ (result ≡ 5) ⊎ (result ≡ 7) }

@@ -25,7 +25,7 @@ use std::alloc::Global;
 use std::thread::Threads;
 use wire_bcs::OutOfMemory;
 
-/// Runs a text and writes no report: answers what is said of the member after the schedule that it is.
+/// Runs a text and writes no report: answers the verdict on the member after the run of its schedule.
 fn find_verdict<R: Threads + Sync, D: Keeper>(
     rt: &R,
     alloc: Global,
@@ -67,7 +67,8 @@ fn write_verdict<K: Sink>(
     write_all(sink, text.as_slice())
 }
 
-/// Writes what is said of the member. Answers the status.
+/// Writes the line of a verdict. Answers the verdict's status if it was written, else 5 (write fault) or 7 (out of
+/// memory).
 fn say_verdict<K: Sink>(alloc: Global, member: u32, verdict: Verdict, sink: &mut K) -> u8
     ensures known { (result ≡ 0) ⊎ (result ≡ 5) ⊎ (result ≡ 7) ⊎ (result ≡ 8) }
     ensures whole { (result ≡ 0) ⊎ (result ≡ 8) → SaysVerdict member verdict result (K.held sink.old) (K.held sink.new) }
@@ -81,7 +82,7 @@ fn say_verdict<K: Sink>(alloc: Global, member: u32, verdict: Verdict, sink: &mut
     }
 }
 
-/// Runs a text that was read, and writes what is said of the member after it. Answers the status.
+/// Runs a text that was read, and writes the verdict on the member after it, or why there is none. Answers the status.
 fn follow_text<R: Threads + Sync, K: Sink, D: Keeper>(
     rt: &R,
     alloc: Global,

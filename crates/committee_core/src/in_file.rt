@@ -61,7 +61,7 @@ fn write_not_empty<K: Sink>(sink: &mut K) -> Result<(), OutFault>
     write_all(sink, b"journal: not empty\n".as_slice())
 }
 
-/// Says why a log was not opened. Answers the status.
+/// Writes why a log was not opened, if a bad record is the reason. Answers the status.
 fn say_unopened<K: Sink>(alloc: Global, refusal: OpenRefusal, sink: &mut K) -> u8
     ensures known { (result ≡ 5) ⊎ (result ≡ 6) ⊎ (result ≡ 7) ⊎ (result ≡ 8) }
     ensures refused { result ≡ 8 → IsBadMember refusal (λ at. Appends (K.held sink.old) (K.held sink.new) (bad_member_text at)) }
@@ -80,7 +80,7 @@ fn say_unopened<K: Sink>(alloc: Global, refusal: OpenRefusal, sink: &mut K) -> u
     }
 }
 
-/// Says why a log was not opened. Gives the disk back.
+/// Ends the program after a log that was not opened: gives the status, and the disk back.
 fn unopened<K: Sink, F: Disk>(alloc: Global, refused: (F, OpenRefusal), sink: &mut K) -> (u8, F)
     ensures disk { result.1 ≡ refused.0 }
     ensures known { (result.0 ≡ 5) ⊎ (result.0 ≡ 6) ⊎ (result.0 ≡ 7) ⊎ (result.0 ≡ 8) }
@@ -94,7 +94,7 @@ fn unopened<K: Sink, F: Disk>(alloc: Global, refused: (F, OpenRefusal), sink: &m
     (status, disk)
 }
 
-/// Says that a journal is not empty. Answers the status.
+/// Writes the line that the journal is not empty. Answers the status.
 fn say_not_empty<K: Sink>(sink: &mut K) -> u8
     ensures known { (result ≡ 5) ⊎ (result ≡ 7) ⊎ (result ≡ 8) }
     ensures refused { result ≡ 8 → Appends (K.held sink.old) (K.held sink.new) not_empty_text }
@@ -108,7 +108,7 @@ fn say_not_empty<K: Sink>(sink: &mut K) -> u8
     }
 }
 
-/// Does what the words say, over an open log. Gives the disk back.
+/// Runs the program with an open log as its keeper. Gives the status, and the disk back.
 fn obey_over<R: Threads + Wait + Sync, S: Source, K: Sink, F: Disk, O: Opening>(
     rt: &R,
     alloc: Global,
@@ -128,8 +128,8 @@ fn obey_over<R: Threads + Wait + Sync, S: Source, K: Sink, F: Disk, O: Opening>(
     (status, log.into_disk())
 }
 
-/// Does what the words say over an open log, unless it has records and the words do not replay.
-/// Gives the disk back.
+/// Runs the program with an open log as its keeper, unless the log has records and the words are no `replay`. Gives
+/// the status, and the disk back.
 #[tactic(auto, using(crate::proofs::InFiles::begins_replay, crate::proofs::InFiles::begins_where_empty, crate::proofs::InFiles::no_records, crate::proofs::InFiles::some_records))]
 fn over_log<R: Threads + Wait + Sync, S: Source, K: Sink, F: Disk>(
     rt: &R,

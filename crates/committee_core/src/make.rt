@@ -1,4 +1,4 @@
-//! The command `make`: the summary of a run that is made.
+//! The command `make`: runs a generated schedule, and writes a summary of the run.
 
 ghost use Rattle.std.specs.Prelude.{◌≡◌, ◌⊎◌, ◌≤◌, Some, slice_get, IfOk, OnErr, OnOk, IsErrOf};
 ghost use Rattle.std.specs.Io.KnownBytes.{Appends};
@@ -28,7 +28,7 @@ use world_core::{Sums, World};
 /// On how many workers the late member runs.
 const WORKERS: u32 = 4;
 
-/// Why a run that is made has no summary.
+/// Why the run of a generated schedule has no summary.
 #[derive(Clone, Copy, Debug, PartialEq, Eq)]
 enum Unmade {
     /// The keeper did not keep a record.

@@ -50,7 +50,7 @@ fn print_restart(member: u32, count: u64, text: &mut Seq<u8>) -> Result<(), OutO
     printed
 }
 
-/// The lines of a member that started from its records.
+/// Adds the lines of a member that started from its records: how many, and the lines of `show` for its state.
 fn print_started(
     alloc: Global,
     world: &World,
@@ -104,7 +104,7 @@ fn say_started<K: Sink>(
     }
 }
 
-/// Writes that a record is bad. Answers the status.
+/// Writes the line that a record is bad. Answers the status.
 fn say_bad_record<K: Sink>(alloc: Global, member: u32, place: u64, sink: &mut K) -> u8
     ensures known { (result ≡ 5) ⊎ (result ≡ 6) ⊎ (result ≡ 7) }
     ensures written { result ≡ 6 → Appends (K.held sink.old) (K.held sink.new) (bad_record_text member place) }
@@ -141,7 +141,7 @@ fn write_no_member<K: Sink>(alloc: Global, member: u32, sink: &mut K) -> Result<
     write_all(sink, text.as_slice())
 }
 
-/// Writes that there is no such member. Answers the status.
+/// Writes the line that there is no such honest member. Answers the status.
 fn say_no_member<K: Sink>(alloc: Global, member: u32, sink: &mut K) -> u8
     ensures known { (result ≡ 5) ⊎ (result ≡ 7) ⊎ (result ≡ 8) }
     ensures written { result ≡ 8 → Appends (K.held sink.old) (K.held sink.new) (no_member_text member) }

@@ -1,4 +1,4 @@
-//! How a run ends.
+//! The ways in which the run of a schedule or a text ends.
 
 /// Why the run of a schedule ended early.
 #[derive(Clone, Copy, Debug, PartialEq, Eq)]
@@ -12,7 +12,7 @@ pub(crate) enum Stop {
     OutOfMemory,
 }
 
-/// What a text was.
+/// How the run of a text ended, if nothing failed.
 #[derive(Clone, Copy, Debug, PartialEq, Eq)]
 pub(crate) enum Ended {
     /// A schedule, whose events all ran.

@@ -1,4 +1,4 @@
-//! The top call.
+//! The [`committee`] call: the whole program over any source, sink and keeper.
 
 ghost use Rattle.std.specs.Prelude.{◌≡◌, ◌↔◌, ◌≤◌, None, Some, IfSome, map};
 ghost use Rattle.std.specs.String.{string_bytes};

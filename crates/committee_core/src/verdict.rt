@@ -1,4 +1,4 @@
-//! How far a follower gets with what a member of a world has built.
+//! The verdict on a member of a world: how far a follower gets with the checkpoints that the member has built.
 
 ghost use Rattle.std.specs.Prelude.{◌≡◌, ◌↔◌, ◌++◌, ◌∷◌, [], IfOk, IsTrue, OnOk, codes, decimal, slice_get};
 ghost use Rattle.world_core.specs.Looks.{transaction_of};
@@ -15,7 +15,7 @@ use validator_core::Validator;
 use wire_bcs::{OutOfMemory, Seq};
 use world_core::World;
 
-/// What is said of a member.
+/// The verdict on a member: how far a follower gets with its checkpoints, and whether it has the member's objects.
 #[derive(Clone, Copy, Debug, PartialEq, Eq)]
 pub(crate) enum Verdict {
     /// The set-up makes no such member honest.
@@ -34,7 +34,8 @@ pub(crate) enum Verdict {
     },
     /// The follower's live objects are not those with which the member opened its epoch.
     Unequal,
-    /// They are: this many checkpoints of the epochs before this one, and this many objects.
+    /// The follower's live objects are those: this many checkpoints of the epochs before this one, and this many
+    /// objects.
     Equal {
         checkpoints: u64,
         epoch: u64,
@@ -95,7 +96,7 @@ fn are_same_objects(one: &[Object], other: &[Object]) -> bool
     others.is_empty()
 }
 
-/// What is said of a member after whose checkpoints the follower stands.
+/// The verdict on a member all of whose checkpoints the follower took: `Equal` or `Unequal`.
 fn verdict_at(validator: &Validator, follower: &Follower) -> Result<Verdict, OutOfMemory>
     ensures { IfOk result (IsVerdictFrom validator.now.state follower.now) }
 {
@@ -111,7 +112,7 @@ fn verdict_at(validator: &Validator, follower: &Follower) -> Result<Verdict, Out
     })
 }
 
-/// What is said of a member that is honest and up.
+/// The verdict on a member that is honest and up.
 fn verdict_on(alloc: Global, world: &World, validator: &Validator) -> Result<Verdict, OutOfMemory>
     ensures { IfOk result (IsVerdict (transaction_of world.now.known) world.now.opening (asked_up validator.now.state)) }
 {
@@ -128,7 +129,7 @@ fn verdict_on(alloc: Global, world: &World, validator: &Validator) -> Result<Ver
     }
 }
 
-/// What is said of a member of a world.
+/// The verdict on a member of a world.
 fn verdict_of(alloc: Global, world: &World, member: u32) -> Result<Verdict, OutOfMemory>
     ensures { IfOk result (IsVerdict (transaction_of world.now.known) world.now.opening (asked_at (slice_get world.now.posts member))) }
 {
@@ -141,7 +142,7 @@ fn verdict_of(alloc: Global, world: &World, member: u32) -> Result<Verdict, OutO
     }
 }
 
-/// What is said of a member of a world, which is let go.
+/// The verdict on a member of a world; the world is dropped.
 pub(crate) fn verdict_behind(
     alloc: Global,
     world: World,

@@ -117,7 +117,7 @@ module _ {J V O : Type 0} (output : J → List V → O) (values : J → List V �
       (ap (λ l. Some (output i l)) (sym same) ∙ ap (λ x. Some (output x (values_at (known_after output values es known t (i ∷ js)) (places_to es t)))) e)
   output_from known t (i ∷ js) (suc k) u j forward is at = output_from (known_next output values es known t i) (t + 1) js k u j forward (omega arith) at
 
-  -- and the final values of its outgoing edges are those that its job gives on the final values
+  -- the final values of a task's outgoing edges are those that its job gives on the final values of its incoming ones
   value_from : (known : List (Option V)) (t : ℕ) (js : List J) (k u : ℕ) (j : J) → ((e : ℕ) → e < length es → source es e < target es e) → length known ≡ length es
       → u ≡ t + k → slice_get js k ≡ Some j → (m : ℕ) (v : V) → m < count_out es u
       → slice_get (values j (values_at (known_after output values es known t js) (places_to es u))) m ≡ Some v
@@ -199,7 +199,7 @@ module _ {J V O : Type 0} (output : J → List V → O) (values : J → List V �
   pub inputs_fit : (u : ℕ) (j : J) → slice_get js u ≡ Some j → length (values_at (edge_values output values es js) (places_to es u)) ≡ takes j
   inputs_fit u j at = length-values_at (edge_values output values es js) (places_to es u) (λ e h. edge_known e (to_target es u e h).0) ∙ sym (plan.takes_in u j at)
 
-  -- and its job gives as many as there are outgoing edges
+  -- a task's job gives as many values as the task has outgoing edges
   pub values_fit : (u : ℕ) (j : J) → slice_get js u ≡ Some j → length (values j (values_at (edge_values output values es js) (places_to es u))) ≡ count_out es u
   values_fit u j at = plan.sized j _ (inputs_fit u j at) ∙ plan.gives_out u j at
 

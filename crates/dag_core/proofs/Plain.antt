@@ -28,7 +28,7 @@ module _ {V : Type 0} where
       let more : take (k + 1) ps ≡ take k ps ++ p ∷ [] = take_more ps k 0 lt ∙ ap (λ x. take k ps ++ x ∷ []) is in
       got ∙ (ap (λ l. l ++ option_to_list (value_of slots p)) had ∙ (ap (λ o. values_at start (take k ps) ++ option_to_list o) (others p fresh) ∙ (sym (values_at-push start (take k ps) p) ∙ ap (values_at start) (sym more))))
 
-  -- and the other edges keep theirs
+  -- edges that are not among the places taken so far keep their values
   pub others_more : (start slots : List (Option V)) (ps : List ℕ) (k p : ℕ) → k < length ps → get_or ps k 0 ≡ p
       → ((e : ℕ) → times e (take k ps) ≡ 0 → value_of slots e ≡ value_of start e) → (e : ℕ) → times e (take (k + 1) ps) ≡ 0 → value_of (set slots p None) e ≡ value_of start e
   others_more start slots ps k p lt is others e none =
@@ -84,7 +84,7 @@ module _ {J V O : Type 0} (output : J → List V → O) (values : J → List V �
           put_else taken (places_from es t) (values j (values_at (edge_values output values es js) (places_to es t))) e (not_from es t e ne)
           ∙ (others e (not_to es t e (λ q. omega arith)) ∙ waits.here e lt (omega arith) (omega arith))
 
-  -- the same, in terms of what the calls give
+  -- `Waits` after one more task, in terms of what the source's calls give
   pub waits_next : (slots taken next : List (Option V)) (t : ℕ) (j : J) (into out : List ℕ) (inputs given : List V) → slice_get js t ≡ Some j → Waits es (edge_values output values es js) slots t
       → into ≡ places_to es t → out ≡ places_from es t → inputs ≡ values_at slots into → given ≡ values j inputs → length taken ≡ length slots
       → ((e : ℕ) → times e into ≡ 0 → value_of taken e ≡ value_of slots e) → next ≡ put_at taken out given → Waits es (edge_values output values es js) next (t + 1)

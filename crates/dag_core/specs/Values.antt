@@ -56,13 +56,14 @@ module _ {V : Type 0} where
   put_at known (place ∷ places) [] = known
   put_at known (place ∷ places) (value ∷ values) = put_at (slice_set known place (Some value)) places values
 
--- what a job's output and values are, in terms of its inputs, and the edges
+-- over what a job computes from its inputs, its output and the values of its outgoing edges, and over the edges
 module _ {J V O : Type 0} (output : J → List V → O) (values : J → List V → List V) (edges : List Edge) where
-  -- a task with this job has its outgoing edges' values, in terms of its incoming edges' values
+  -- the values known after this task: those of its outgoing edges are what its job gives for those of its incoming
+  -- edges
   abbrev pub known_next : List (Option V) → ℕ → J → List (Option V)
   known_next known task job = put_at known (places_from edges task) (values job (values_at known (places_to edges task)))
 
-  -- what is known of the edges when the tasks from this one on, with these jobs, have run
+  -- the values known once the tasks from this one on, with these jobs, have run
   abbrev pub known_after : List (Option V) → ℕ → List J → List (Option V)
   known_after known task [] = known
   known_after known task (job ∷ jobs) = known_after (known_next known task job) (task + 1) jobs
@@ -80,7 +81,8 @@ module _ {J V O : Type 0} (output : J → List V → O) (values : J → List V �
   abbrev pub outputs : List J → List O
   outputs jobs = outputs_after (replicate (length edges) None) 0 jobs
 
--- before a task, each edge from an earlier task to this or a later one holds its value
+-- the slots before a task runs: each edge from an earlier task to this one or a later one holds its final value
+-- (`wanted`)
 pub record Waits {V : Type 0} (edges : List Edge) (wanted slots : List (Option V)) (task : ℕ) : Type 0 where
   pub counted : length slots ≡ length edges
   pub here : (place : ℕ) → place < length edges → source edges place < task → task ≤ target edges place → value_of slots place ≡ value_of wanted place

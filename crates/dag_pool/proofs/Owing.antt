@@ -35,7 +35,7 @@ module _ {V : Type 0} (es : List Edge) (n workers k : ℕ) where
       (λ f t r. inl r)
       (λ t d. o.valid t (omega (arith, d))))
 
-  -- and so does one that found the task claimed
+  -- what is due stays so for a worker that found the task claimed by another
   pub owed_gone : (v w : View V) (task : ℕ) (due : List ℕ) (starved : Bool) → w ≡ with_gone v task → IsOwed es n workers k v (task ∷ due) starved → IsOwed es n workers k w due starved
   owed_gone v w task due starved e o = subst (λ u. IsOwed es n workers k u due starved) (sym e)
       (owed_step v (with_gone v task) (task ∷ due) due starved starved o (λ f. f)

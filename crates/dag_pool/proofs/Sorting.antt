@@ -93,7 +93,7 @@ module _ {O : Type 0} where
   pub sorts_full : (n : ℕ) (all : List (ℕ × O)) (slots : List (Option O)) → Sorts n all [] slots → (t : ℕ) → t < length slots → (o : O) × (slice_get slots t ≡ Some (Some o))
   sorts_full n all slots s t lt = filled_some slots t lt (let h = s.there t (let z = s.size in omega arith) in omega arith)
 
-  -- and what stands in them is the outputs
+  -- when no pair is left, what stands in the slots is the outputs in order
   pub sorts_all : (n : ℕ) (all : List (ℕ × O)) (slots : List (Option O)) (sorted os : List O) → Sorts n all [] slots → length sorted ≡ length slots
       → ((t : ℕ) (o : O) → slice_get sorted t ≡ Some o → slice_get slots t ≡ Some (Some o)) → length os ≡ n → AreOutputs os all → sorted ≡ os
   sorts_all n all slots sorted os s len same size are = same_lists sorted os (len ∙ (s.size ∙ sym size))

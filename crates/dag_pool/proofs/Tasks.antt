@@ -39,7 +39,7 @@ place_into es task places i e lt =
     let r = to_target es task (get_or places i 0) (subst (λ l. 0 < times (get_or places i 0) l) e at.some) in
     record { inside = r.0; is = r.1; before = at.before }
 
--- and of those that go from it
+-- the place `p` is the `i`-th of the edges that go from the task
 pub record IsFrom (es : List Edge) (task : ℕ) (places : List ℕ) (i p : ℕ) : Type 0 where
   pub inside : p < length es
   pub is : source es p ≡ task

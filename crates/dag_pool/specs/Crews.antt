@@ -1,4 +1,4 @@
--- A crew's board, and what a worker of it keeps.
+-- What holds of a worker of a crew at each point of its work, and of what it brings back.
 use Rattle.std.specs.Prelude.{◌≡◌, ℕ, ◌+◌, ◌<◌, ◌≤◌, Bool, false, if◌then◌else◌, List, [], ◌∷◌, length}
 use Rattle.dag_core.specs.declared.job.Job.{Ghosts}
 use Rattle.dag_core.specs.declared.plan.Plan.{Plan}
@@ -16,12 +16,12 @@ module _ {J V O G : Type 0} {g : Ghosts J V O} where
   abbrev pub plan_of : Crew J G V O g → Plan J V O g
   plan_of crew = over crew.board.now
 
-  -- what stands between two tasks of a worker
+  -- a worker between two tasks: its seat is of the crew's board, and its outputs are those of what it claimed
   pub record IsGood (crew : Crew J G V O g) (post : Post J V O) : Type 0 where
     pub of : IsOf crew.board.now post.seat
     pub sound : IsSound (plan_of crew).edges (length (plan_of crew).jobs) (plan_outputs (plan_of crew)) (view post.seat) post.outputs.items
 
-  -- what stands when a worker has just claimed a task
+  -- a worker that has just claimed this task, and not run it yet
   pub record HasBegun (crew : Crew J G V O g) (task : ℕ) (post : Post J V O) : Type 0 where
     pub of : IsOf crew.board.now post.seat
     pub inside : task < length (plan_of crew).jobs
@@ -36,12 +36,12 @@ module _ {J V O G : Type 0} {g : Ghosts J V O} where
     pub good : IsGood crew post
     pub owed : Owes crew number post.due.items post
 
-  -- whatever came, the seat is still of the board, with its share
+  -- even if memory was refused, the seat is still of the board and has its share
   pub record KeepsSeat (crew : Crew J G V O g) (old new : Post J V O) : Type 0 where
     pub of : IsOf crew.board.now new.seat
     pub share : (view new.seat).share ≡ (view old.seat).share
 
-  -- the worker did one task more, or none
+  -- after one turn of a worker: it did one task more (`done`), or none, and is between two tasks again
   pub record Turned (crew : Crew J G V O g) (number : ℕ) (old new : Post J V O) (done : Bool) : Type 0 where
     pub ready : IsReady crew number new
     pub mine : length (view new.seat).mine ≡ length (view old.seat).mine + (if done then 1 else 0)
@@ -55,7 +55,7 @@ module _ {J V O G : Type 0} {g : Ghosts J V O} where
     pub all : HasAll task (view post.seat)
     pub once : 0 < task → (t : ℕ) → times t (view post.seat).mine ≤ 1
 
-  -- what is handed out to so many workers: nothing was done with it yet
+  -- a shift for so many workers, before any work: nothing claimed, no outputs, and a kit for each of the others
   pub record IsFresh (crew : Crew J G V O g) (workers : ℕ) (shift : Shift J V O) : Type 0 where
     pub of : IsOf crew.board.now shift.post.seat
     pub share : workers ≤ (view shift.post.seat).share
@@ -64,7 +64,7 @@ module _ {J V O G : Type 0} {g : Ghosts J V O} where
     pub due : shift.post.due.items ≡ []
     pub kits : length shift.others.items + 1 ≡ workers
 
-  -- what the workers of these numbers, the second excluded, bring back
+  -- the shift that the workers with numbers from `low` to below `high` bring back together
   pub record HasWorked (crew : Crew J G V O g) (low high : ℕ) (shift : Shift J V O) : Type 0 where
     pub of : IsOf crew.board.now shift.post.seat
     pub left : shift.lost ≡ false → IsLeft (plan_of crew).edges (length (plan_of crew).jobs) crew.workers low high (plan_outputs (plan_of crew)) (view shift.post.seat) shift.post.outputs.items shift.post.starved

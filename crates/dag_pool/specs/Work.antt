@@ -55,21 +55,22 @@ module _ {V O : Type 0} where
     pub right : AreOutputs outputs pairs
     pub all : (t : ℕ) → times t v.mine ≤ times_in t pairs
 
-  -- what stands between two tasks: each claimed task is done, none was claimed twice, and all are tasks of the plan
+  -- between two tasks: each claimed task is done, none was claimed twice, and all are tasks of the plan
   pub record IsSound (edges : List Edge) (tasks : ℕ) (outputs : List O) (v : View V) (pairs : List (ℕ × O)) : Type 0 where
     pub clean : IsClean edges v
     pub brings : Brings outputs v pairs
     pub once : (t : ℕ) → times t v.mine ≤ 1
     pub inside : (t : ℕ) → tasks ≤ t → times t v.mine ≡ 0
 
-  -- what stands when a task was just claimed
+  -- just after the claim of this task, which is not done yet
   pub record IsBegun (edges : List Edge) (tasks : ℕ) (outputs : List O) (task : ℕ) (v : View V) (pairs : List (ℕ × O)) : Type 0 where
     pub before : View V
     pub sound : IsSound edges tasks outputs before pairs
     pub fresh : times task before.mine ≡ 0
     pub claimed : v ≡ with_mine before task
 
-  -- what the workers of these numbers leave, the second excluded
+  -- after the workers with numbers from `low` to below `high`: each claimed task is done; unless one was refused
+  -- memory, each task that was dealt to them or that their payments made ready was claimed, by them or elsewhere
   pub record IsLeft (edges : List Edge) (tasks workers low high : ℕ) (outputs : List O) (v : View V) (pairs : List (ℕ × O)) (starved : Bool) : Type 0 where
     pub clean : IsClean edges v
     pub brings : Brings outputs v pairs

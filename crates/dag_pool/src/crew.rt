@@ -7,7 +7,8 @@ use dag_core::{Job, Plan};
 use std::alloc::Global;
 use steal_board::Board;
 
-/// The plan, the board that was laid over it, and the gate.
+/// What all workers of a run share: the plan, the board that was laid over it, the gate, and how many workers there
+/// are.
 #[derive(Drop)]
 pub(crate) struct Crew<'a, J: Job, G> {
     pub(crate) alloc: Global,

@@ -1,4 +1,4 @@
-//! What is notified of each execution.
+//! Gates: callbacks before and after each task that runs, for tests and measurements.
 
 ghost use Rattle.std.specs.Prelude.{ℕ};
 

@@ -1,4 +1,4 @@
-//! What each worker takes tasks from.
+//! Where a worker gets tasks from: its own deck, and those of the others.
 
 ghost use Rattle.std.specs.Prelude.{◌≡◌, ◌<◌, ◌≤◌, ◌^◌, length, IfOk};
 

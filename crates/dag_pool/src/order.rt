@@ -6,7 +6,7 @@ ghost use Rattle.dag_pool.specs.Outputs.{AreOutputs, times_in};
 use std::alloc::Global;
 use wire_bcs::{OutOfMemory, Seq};
 
-/// The outputs that the pairs of a task and its output say, in the order of the tasks. Each task stands among the pairs.
+/// The outputs of these pairs of task and output, in the order of the tasks. Each task is among the pairs.
 pub(crate) fn in_order<O: Drop>(
     alloc: Global,
     mut pairs: Vec<(u32, O)>,

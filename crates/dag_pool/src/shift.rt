@@ -80,14 +80,14 @@ impl<J: Job, G: Gate> Team<Shift<J>> for Crew<'_, J, G> {
     }
 }
 
-// Whether any of three things that the workers report is so.
+// Whether one of the three is true: a task lost by one part, by the other, or memory refused as they were joined.
 fn any_of(one: bool, two: bool, three: bool) -> bool
     ensures { result ≡ false → (one ≡ false) × (two ≡ false) × (three ≡ false) }
 {
     one || two || three
 }
 
-// What two workers did, and whether memory was refused.
+// Joins what two parts of a crew did: seats and outputs. Answers also whether memory was refused for the outputs.
 fn join_posts<J: Job, G>(crew: &Crew<'_, J, G>, first: Post<J>, second: Post<J>) -> (Post<J>, bool)
     requires first { IsOf crew.now.board.now first.seat }
     requires second { IsOf crew.now.board.now second.seat }

@@ -1,4 +1,4 @@
-//! What one worker does, until nothing that it owes is left.
+//! The loop of one worker: its own deck first, then the others' decks, until nothing that it owes is left.
 
 ghost use Rattle.std.specs.Prelude.{◌≡◌, ℕ, ◌+◌, ◌<◌, false, [], length, IfOk, OnOk, if◌then◌else◌};
 ghost use Rattle.steal_board.specs.Boards.{view};

@@ -35,7 +35,7 @@ pub sync-settles : (first : List ℕ) (changes : List Change) → Settles (histo
 sync-settles first [] = inr (refl, settled_is first)
 sync-settles first (change ∷ changes) = settles (record { past = []; now = settled_at first }) change changes
 
--- and reads give the same
+-- reads give the same if the last change is taken as synced
 reads-last : (h : History) (changes : List Change) → (grown h (last_synced changes)).now.reads ≡ (grown h changes).now.reads
 reads-last h [] = refl
 reads-last h (change ∷ []) = last change.synced refl

@@ -33,7 +33,7 @@ counted-closed gate rest shut = counted-step gate rest ∙ test (gate == 1) (gri
     test : (b : Bool) → b ≡ false → (if b && nat_lt (8 + count_in rest) (length rest) then record_in rest ∷ counted (behind_record rest) else []) ≡ []
     test b is = rw is refl
 
--- nor if the record does not lie in the file with the next gate
+-- no record counts if the first one does not lie in the file together with the next gate
 pub counted-short : (gate : ℕ) (rest : List ℕ) → length rest ≤ 8 + count_in rest → counted (gate ∷ rest) ≡ []
 counted-short gate rest short = counted-step gate rest ∙ test (gate == 1) (nat_lt (8 + count_in rest) (length rest)) (grind (arith, nat_tests))
   where

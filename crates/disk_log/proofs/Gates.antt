@@ -60,7 +60,7 @@ torn-behind front gate rest end count c size torn =
     ∙ ap (λ (l : List ℕ). take (end + 1) l) group ∙ take_at (front ++ gate ∷ []) rest (end + 1) one in
     (drop (end + 1) c, sym (take-append-drop (end + 1) c) ∙ ap (λ (l : List ℕ). l ++ drop (end + 1) c) same ∙ append_assoc front (gate ∷ []) (drop (end + 1) c))
 
--- and a torn gate leaves what is before it and after
+-- a torn gate leaves all bytes before and after it
 pub torn-gate : (front : List ℕ) (gate : ℕ) (rest : List ℕ) (end : ℕ) (c : List ℕ) → length front ≡ end → IsTorn end 1 (front ++ gate ∷ rest) c → (g : ℕ) × (c ≡ front ++ g ∷ rest)
 torn-gate front gate rest end c size torn =
     let long : length (front ++ gate ∷ rest) ≡ end + 1 + length rest = omega (arith, length-append front (gate ∷ rest), size) in

@@ -50,7 +50,7 @@ settled-image m bytes s c image =
     image.kept k (omega (arith, ap length s.stable)) (subst (λ (r : List Span). IsOutside r k) (sym s.ranges) tt)
     ∙ ap (λ (l : List ℕ). get_or l k 0) s.stable)
 
--- and after a write or a try, any bytes in its range
+-- after a write or a try a crash leaves the stable bytes, with any bytes in the written range
 pub touched-image : (m n : Moment) (bytes : List ℕ) (at count : ℕ) → IsSettled m bytes → IsTouched m n at count → (c : List ℕ) → IsImage n c → IsTorn at count bytes c
 touched-image m n bytes at count s t c image =
     let stable : n.stable ≡ bytes = t.stable ∙ s.stable in

@@ -13,8 +13,8 @@ abbrev pub IsOutside : List Span → ℕ → Type 0
 IsOutside [] k = Unit {0}
 IsOutside (span ∷ spans) k = ((k < span.at) ⊎ (span.at + span.count ≤ k)) × IsOutside spans k
 
--- what a crash at this moment may leave: any bytes, of a length from the stable size to the greatest size
--- since, that outside the ranges are the stable ones
+-- a file that a crash at this moment may leave: its length is from the stable size to the greatest size since then;
+-- inside the touched ranges any bytes, outside them the stable ones
 pub record IsImage (m : Moment) (image : List ℕ) : Type 0 where
   pub no_shorter : length m.stable ≤ length image
   pub no_longer : length image ≤ m.most
@@ -27,7 +27,7 @@ pub record IsSettled (m : Moment) (bytes : List ℕ) : Type 0 where
   pub most : m.most ≡ length bytes
   pub ranges : m.ranges ≡ []
 
--- other bytes in a range, and past the old end; the same elsewhere
+-- new differs from old only in `count` bytes from `at` on, which may reach past the old end
 pub record IsTorn (at count : ℕ) (old new : List ℕ) : Type 0 where
   pub no_shorter : length old ≤ length new
   pub no_longer : length new ≤ max (length old) (at + count)
@@ -37,7 +37,7 @@ pub record IsTorn (at count : ℕ) (old new : List ℕ) : Type 0 where
 abbrev pub with_bytes : List ℕ → ℕ → List ℕ → List ℕ
 with_bytes old at bytes = take at old ++ bytes ++ drop (at + length bytes) old
 
--- after a write or a try of so many bytes at a place
+-- after a write, or a failed one, of so many bytes at an offset: its range is no longer stable
 pub record IsTouched (old new : Moment) (at count : ℕ) : Type 0 where
   pub stable : new.stable ≡ old.stable
   pub most : new.most ≡ max old.most (at + count)
@@ -79,7 +79,7 @@ abbrev pub IfTold : Option History → (History → Type 0) → Type 0
 IfTold None P = Unit {0}
 IfTold (Some h) P = P h
 
--- what reads give is stable
+-- all that reads give is stable: a crash leaves exactly that
 abbrev pub IsQuiet : History → Type 0
 IsQuiet h = IsSettled h.now h.now.reads
 
@@ -110,12 +110,13 @@ abbrev pub Settles : History → Option History → Type 0
 Settles old new =
     ((m : Moment) × (new ≡ Some (later old m)) × IsSettled m old.now.reads) ⊎ ((new ≡ Some old) × IsSettled old.now old.now.reads)
 
--- what a sync does: at Ok what reads give is stable, after a fault nothing changed
+-- a sync at Ok makes all that reads give stable; after a fault nothing changed. A disk that shows no moments never
+-- does
 abbrev pub Synced : Option History → Option History → Result (Unit {0}) Fault → Type 0
 Synced None new result = new ≡ None
 Synced (Some old) new result = MatchResult result (λ _. Settles old new) (λ _. new ≡ Some old)
 
--- what a read gives
+-- the bytes that a read gave are the observable ones from `at` on
 abbrev pub IsGiven : Option History → ℕ → List ℕ → Type 0
 IsGiven None at bytes = Unit {0}
 IsGiven (Some h) at bytes = bytes ≡ take (length bytes) (drop at h.now.reads)
@@ -140,13 +141,13 @@ abbrev pub after_put : History → History → ℕ → ℕ → OutFault → Type
 after_put old new at count fault.Failed = IsTorn at count old.now.reads new.now.reads
 after_put old new at count fault.OutOfMemory = new ≡ old
 
--- until the end of the call a crash leaves any bytes in the range and the old ones elsewhere; at Ok the bytes are
--- stable, and if memory was refused nothing changed
+-- at each moment of the call a crash leaves the old file with any bytes in the range; at Ok the bytes are stable, and
+-- if memory was refused nothing changed
 pub record IsPut (old new : History) (at : ℕ) (bytes : List ℕ) (result : Result (Unit {0}) OutFault) : Type 0 where
   pub torn : LeavesOnly (IsTorn at (length bytes) old.now.reads) old new
   pub ended : MatchResult result (λ _. IsSettled new.now (with_bytes old.now.reads at bytes)) (after_put old new at (length bytes))
 
--- the same, if the moments are observable
+-- `IsPut` on a disk that shows its moments; one that does not stays so
 abbrev pub Put : Option History → Option History → ℕ → List ℕ → Result (Unit {0}) OutFault → Type 0
 Put None new at bytes result = new ≡ None
 Put (Some old) new at bytes result = (h : History) × (new ≡ Some h) × IsPut old h at bytes result

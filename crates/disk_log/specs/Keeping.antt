@@ -1,4 +1,5 @@
--- What the calls of a log say. Source: this profile.
+-- What is promised of a `DiskLog`: of opening it, of appending to it, and of its use as a keeper. Source: this
+-- profile.
 use Rattle.std.specs.Prelude.{◌≡◌, ◌≢◌, ℕ, ◌+◌, ◌^◌, ◌<◌, ◌≤◌, Bool, true, false, List, [], ◌∷◌, ◌++◌, ◌⊎◌, ◌↔◌, ◌-◌, min, length, take, slice_index, slice_set, Option, Some, None, Result, Ok, Err}
 use Rattle.outside.specs.Causes.{Rose}
 use Rattle.outside.specs.Lists.{Journals}
@@ -19,13 +20,14 @@ pub record LogState (D : Type 0) : Type 0 where
   pub shut : Bool
   pub faults : ℕ
 
--- up to the gate stand whole records, which are listed
+-- the file up to the gate is whole records, and the index has the range of each
 pub record IsKept (end : ℕ) (rows : Rows) (h : History) : Type 0 where
   pub whole : Whole (take end h.now.reads) (records_to h.now.reads end)
   pub inside : end < length h.now.reads
   pub lists : IsListed (take end h.now.reads) rows (records_to h.now.reads end)
 
--- what is true of every log: its fields fit the disk's bytes, and unless it is shut the gate is ready
+-- the invariant of a log: its fields fit the disk's bytes, and unless it is shut the next record can be put at the
+-- gate
 pub record IsGood (told : Option History) (extent end members : ℕ) (shut : Bool) (rows : Rows) : Type 0 where
   pub width : length rows ≡ members
   pub inside : IsInside end rows
@@ -39,7 +41,7 @@ abbrev pub told_lists : Option History → ℕ → ℕ → Option Journals
 told_lists None end members = None
 told_lists (Some h) end members = Some (journals_of members (records_to h.now.reads end))
 
--- what a crash leaves now are files in which these records count and no others
+-- in every file that a crash may leave now exactly these records count
 abbrev pub LeavesRecords : History → List Record → Type 0
 LeavesRecords h records = (image : List ℕ) → IsImage h.now image → counted image ≡ records
 
@@ -73,25 +75,25 @@ pub record IsAppended (old new : History) (end : ℕ) (r : Record) (result : Res
   pub records : records_to new.now.reads (end_behind end (length r.bytes) result) ≡ records_behind (records_to old.now.reads end) r result
   pub between : result ≢ Err log.DiskFault → LeavesRecords new (records_behind (records_to old.now.reads end) r result)
 
--- the same, if the moments are observable
+-- `IsAppended` on a disk that shows its moments; one that does not stays so
 abbrev pub Appends : Option History → Option History → ℕ → ℕ → List ℕ → Result (Unit {0}) LogRefusal → Type 0
 Appends None new end member bytes result = new ≡ None
 Appends (Some old) new end member bytes result =
     (h : History) × (new ≡ Some h) × IsAppended old h end (record { member = member; bytes = bytes }) result
 
--- what an append says of the disk's count of faults
+-- the disk's count of faults never falls, and it rose if the append answers `DiskFault`
 pub record AppendCause (before now : ℕ) (result : Result (Unit {0}) LogRefusal) : Type 0 where
   pub later : before ≤ now
   pub fault : result ≡ Err log.DiskFault → Rose before now
 
 -- ---- opening
 
--- once the first sync has succeeded, at each moment a crash leaves a file in which the records count that
--- counted in what reads gave
+-- from the first sync on, at each moment a crash leaves a file in which the same records count as in the file that was
+-- opened
 abbrev pub OpensOnly : History → History → Type 0
 OpensOnly old new = (synced : History) × Settles old (Some synced) × LeavesOnly (λ c. counted c ≡ counted old.now.reads) synced new
 
--- an open log has those records, whose members are all known, and a crash leaves them and no others
+-- an open log has the records that counted in the file; their members are all known, and a crash leaves exactly them
 pub record IsOpened (old new : History) (end members : ℕ) : Type 0 where
   pub any_moment : OpensOnly old new
   pub records : records_to new.now.reads end ≡ counted old.now.reads
@@ -102,7 +104,7 @@ abbrev pub Opened : Option History → Option History → ℕ → ℕ → Type 0
 Opened None new end members = new ≡ None
 Opened (Some old) new end members = (h : History) × (new ≡ Some h) × IsOpened old h end members
 
--- if it was refused, the first sync failed and no moment passed, or the same is true of each moment
+-- an opening that was refused: the first sync failed and nothing changed, or `OpensOnly`
 abbrev pub NotOpened : Option History → Option History → Type 0
 NotOpened None new = new ≡ None
 NotOpened (Some old) new = (new ≡ Some old) ⊎ ((h : History) × (new ≡ Some h) × OpensOnly old h)
@@ -115,7 +117,8 @@ PassedOn (Ok _) result before now = (result ≡ Ok tt) × (now ≡ before)
 PassedOn (Err log.OutOfMemory) result before now = (result ≡ Err fault.OutOfMemory) × (now ≡ before)
 PassedOn (Err refusal) result before now = (result ≡ Err fault.Failed) × (now ≡ min (before + 1) (2 ^ 64 - 1))
 
--- an append by the keeper is one to the log, passed on; and what a crash leaves at each moment is what that says
+-- an append by the log as a keeper is an append to the log, with its answer passed on; and so is what a crash leaves
+-- at each moment of it
 pub record IsKeptAppend {D : Type 0} (history : D → Option History) (failed : D → ℕ) (old new : LogState D) (member : ℕ) (bytes : List ℕ) (result : Result (Unit {0}) OutFault) : Type 0 where
   pub answer : Result (Unit {0}) LogRefusal
   pub passed : PassedOn answer result old.faults new.faults

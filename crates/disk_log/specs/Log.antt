@@ -1,4 +1,4 @@
--- The log over a disk. Source: this profile.
+-- The log over a disk: its index, how a record is added at the gate, and how records are read. Source: this profile.
 use Rattle.std.specs.Prelude.{◌≡◌, ◌≢◌, ℕ, ◌+◌, ◌<◌, ◌≤◌, Bool, true, false, List, [], ◌∷◌, ◌++◌, ◌⊎◌, All, length, map, take, drop, slice_index, slice_set, Option, Some, None, Result, MatchResult, OnOk}
 use Rattle.std.specs.List.{slice_index_or}
 use Rattle.outside.specs.Causes.{Rose}
@@ -12,7 +12,7 @@ use Rattle.disk_log.specs.declared.refusals.OpenRefusal.TheVariants as refused
 use Rattle.disk_log.specs.Disk.{History, IsQuiet, LeavesOnly, IfTold}
 use Rattle.disk_log.specs.Records.{Record, Whole, counted, records_to, journals_of, head_of, count_in, bad_member}
 
--- where a member's records stand, for each member
+-- the index of a log: for each member the ranges of its records' bytes, in order
 abbrev pub Rows : Type 0
 Rows = List (List Span)
 
@@ -28,11 +28,11 @@ IsInside end rows = All (All (λ span. span.at + span.count ≤ end)) rows
 abbrev pub row_of : Rows → ℕ → List Span
 row_of rows member = slice_index_or rows member []
 
--- one more at the end of a member's
+-- the index with one more range for this member
 abbrev pub with_span : Rows → ℕ → Span → Rows
 with_span rows member span = slice_set rows member (row_of rows member ++ span ∷ [])
 
--- what the ranges give are the lists of the members after these records
+-- reading the ranges of the index in the file gives each member's list of these records
 abbrev pub IsListed : List ℕ → Rows → List Record → Type 0
 IsListed front rows records = map (map (bytes_at front)) rows ≡ journals_of (length rows) records
 
@@ -47,37 +47,38 @@ pub record IsWhole (h : History) (end : ℕ) : Type 0 where
   pub whole : Whole (take end h.now.reads) (records_to h.now.reads end)
   pub inside : end < length h.now.reads
 
--- all of the file is stable, and the gate is not open
+-- the whole file is stable, and the gate at `end` is not open: a record can be put after it
 pub record IsReady (h : History) (end : ℕ) : Type 0 where
   pub quiet : IsQuiet h
   pub closed : slice_index h.now.reads end ≢ 1
 
 -- ---- a record after the gate
 
--- the record stands in the file, whole and open, and the gate after it is ready
+-- the record was added: it stands after its open gate, and the next gate is ready
 pub record IsAdded (old new : History) (end member : ℕ) (bytes : List ℕ) : Type 0 where
   pub front : take (end + 9 + length bytes) new.now.reads ≡ take end old.now.reads ++ 1 ∷ (head_of member bytes ++ bytes)
   pub inside : end + 9 + length bytes < length new.now.reads
   pub ready : IsReady new (end + 9 + length bytes)
 
--- after a fault nothing is said but what every moment allows; if memory was refused the gate is ready
+-- how an append that failed leaves the gate: ready if memory was refused; after a fault of the disk nothing is known
+-- of it
 abbrev pub after_fault : History → ℕ → OutFault → Type 0
 after_fault new end fault.Failed = Unit {0}
 after_fault new end fault.OutOfMemory = IsReady new end
 
--- a crash at any moment leaves the records from before, with this one or without
+-- at each moment of the call a crash leaves a file in which the records of before count, with this one or without it
 pub record IsRecorded (old new : History) (end member : ℕ) (bytes : List ℕ) (result : Result (Unit {0}) OutFault) : Type 0 where
   pub any_moment : LeavesOnly (HasOldOrNew (records_to old.now.reads end) (record { member = member; bytes = bytes })) old new
   pub front : take end new.now.reads ≡ take end old.now.reads
   pub inside : end < length new.now.reads
   pub ended : MatchResult result (λ _. IsAdded old new end member bytes) (after_fault new end)
 
--- the same, if the moments are observable
+-- `IsRecorded` on a disk that shows its moments; one that does not stays so
 abbrev pub Recorded : Option History → Option History → ℕ → ℕ → List ℕ → Result (Unit {0}) OutFault → Type 0
 Recorded None new end member bytes result = new ≡ None
 Recorded (Some old) new end member bytes result = (h : History) × (new ≡ Some h) × IsRecorded old h end member bytes result
 
--- the gate is ready after whole records
+-- whole records stand up to the gate, which is ready
 pub record IsAtGate (end : ℕ) (h : History) : Type 0 where
   pub whole : IsWhole h end
   pub ready : IsReady h end
@@ -96,7 +97,7 @@ abbrev pub NextIs : List ℕ → Option Head → Type 0
 NextIs file None = counted file ≡ []
 NextIs file (Some head) = IsNext file head.member head.count
 
--- what nine bytes at a gate say, if so many are left from the gate on
+-- what the nine bytes at a gate say of the next record, if `left` bytes of the file are left from the gate on
 abbrev pub HeadSays : List ℕ → ℕ → Option Head → Type 0
 HeadSays bytes left None = slice_index bytes 0 ≡ 1 → left ≤ 9 + count_in (drop 1 bytes)
 HeadSays bytes left (Some head) =
@@ -110,7 +111,7 @@ pub record IsWalked (at : ℕ) (rows : Rows) (reads : List ℕ) : Type 0 where
   pub lists : IsListed (take at reads) rows (records_to reads at)
   pub known : bad_member (length rows) 0 (counted reads) ≡ bad_member (length rows) at (counted (drop at reads))
 
--- and no more counts after it
+-- so far, and no record counts after it
 pub record IsWalkedThrough (at : ℕ) (rows : Rows) (reads : List ℕ) : Type 0 where
   pub walked : IsWalked at rows reads
   pub through : counted (drop at reads) ≡ []
@@ -123,7 +124,7 @@ pub record WalkCause (before now : ℕ) (told : Option History) (members : ℕ) 
 
 -- ---- the gate after the records
 
--- what is done at the gate leaves what counts, at any moment; at Ok the gate is ready
+-- closing the gate after the last record changes no record that counts, at any moment; at Ok the gate is ready
 pub record IsMended (old new : History) (end : ℕ) (result : Result (Unit {0}) OutFault) : Type 0 where
   pub any_moment : LeavesOnly (λ c. counted c ≡ counted old.now.reads) old new
   pub front : take end new.now.reads ≡ take end old.now.reads

@@ -20,7 +20,7 @@ pub record DiskState : Type 0 where
 abbrev pub settled_at : List ℕ → Moment
 settled_at bytes = record { reads = bytes; stable = bytes; most = length bytes; ranges = [] }
 
--- after a write, or a try, which leaves what reads give
+-- the moment after a write; a failed one leaves what reads give
 abbrev pub touched_by : Moment → Change → Moment
 touched_by m change = record {
   reads = if change.failed then m.reads else with_bytes m.reads change.at change.bytes;
@@ -43,7 +43,7 @@ grown h (change ∷ changes) = grown (behind_change h change) changes
 abbrev pub history_of : List ℕ → List Change → History
 history_of first changes = grown (record { past = []; now = settled_at first }) changes
 
--- only the last of them
+-- the last moment of a change, without the history
 abbrev pub moment_behind : Moment → Change → Moment
 moment_behind m change = if change.synced then settled_at (touched_by m change).reads else touched_by m change
 

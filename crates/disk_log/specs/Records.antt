@@ -1,4 +1,4 @@
--- The file of records. Source: this profile.
+-- The format of a journal file, and which of its records count. Source: this profile.
 use Rattle.std.specs.Prelude.{◌≡◌, ℕ, zero, suc, ◌+◌, ◌==◌, ◌&&◌, nat_lt, Bool, List, [], ◌∷◌, ◌++◌, length, take, drop, replicate, if◌then◌else◌, Option, Some, None}
 use Rattle.wire_bcs.specs.Little.{low_first, value_of}
 use Rattle.outside.specs.Lists.{Journals, with_record}
@@ -16,7 +16,7 @@ count_in rest = value_of (take 4 rest)
 abbrev pub record_in : List ℕ → Record
 record_in rest = record { member = value_of (take 4 (drop 4 rest)); bytes = take (count_in rest) (drop 8 rest) }
 
--- from the next gate on
+-- what stands after a record, from the next gate on
 abbrev pub behind_record : List ℕ → List ℕ
 behind_record rest = drop (8 + count_in rest) rest
 
@@ -35,11 +35,11 @@ counted_by (suc fuel) (gate ∷ rest) =
 abbrev pub counted : List ℕ → List Record
 counted file = counted_by (length file) file
 
--- the records that count in the prefix of a file up to a gate, were that gate closed
+-- the records that would count if the file ended in a closed gate at `end`
 abbrev pub records_to : List ℕ → ℕ → List Record
 records_to file end = counted (take end file ++ 0 ∷ [])
 
--- whole records, gates open, and which they are
+-- bytes that are whole records, one after the other, each after an open gate; and the records that they are
 pub data Whole : List ℕ → List Record → Type 0 where
   none : Whole [] []
   more : (head bytes rest : List ℕ) (records : List Record) → length head ≡ 8 → value_of (take 4 head) ≡ length bytes → Whole rest records → Whole (1 ∷ (head ++ (bytes ++ rest))) (record { member = value_of (drop 4 head); bytes = bytes } ∷ records)

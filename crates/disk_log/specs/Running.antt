@@ -1,4 +1,4 @@
--- The log of a run, and what is left of it. Source: this profile.
+-- The log as a run's keeper, and the records that it leaves on the disk. Source: this profile.
 use Rattle.std.specs.Prelude.{◌≡◌, ◌⊎◌, ◌↔◌, ℕ, ◌<◌, Bool, true, false, IsTrue, List, [], ◌∷◌, ◌++◌, length, Option, Some, None, Result, Ok, Err}
 use Rattle.outside.specs.Lists.{Journals}
 use Rattle.outside.specs.declared.faults.OutFault.{OutFault}
@@ -13,11 +13,11 @@ use Rattle.disk_log.specs.Keeping.{Appends, LeavesRecords, end_behind}
 abbrev pub HasRecords : ℕ → List Record → List ℕ → Type 0
 HasRecords faults records file = (counted file ≡ records) ⊎ ((0 < faults) × (r : Record) × (counted file ≡ records ++ r ∷ []))
 
--- so it is in each file that a crash may leave now
+-- `HasRecords` of each file that a crash may leave now
 abbrev pub LeavesThese : ℕ → List Record → History → Type 0
 LeavesThese faults records h = (image : List ℕ) → IsImage h.now image → HasRecords faults records image
 
--- and in what reads give
+-- `HasRecords` of what reads give, and of each file that a crash may leave now
 pub record Holds (faults : ℕ) (records : List Record) (h : History) : Type 0 where
   pub reads : HasRecords faults records h.now.reads
   pub crash : LeavesThese faults records h
@@ -27,8 +27,8 @@ abbrev pub HoldsLists : ℕ → ℕ → Option History → Option Journals → T
 HoldsLists members faults None lists = lists ≡ None
 HoldsLists members faults (Some h) lists = (records : List Record) × (lists ≡ Some (journals_of members records)) × Holds faults records h
 
--- what is true of the log of a run: up to its gate stand the records that the disk holds, and it is shut only if a
--- call of the disk has failed
+-- the invariant of a run's log: the disk holds the records up to its gate, and it is shut only if a call of the disk
+-- has failed
 pub record IsRunning (told : Option History) (faults end : ℕ) (shut : Bool) : Type 0 where
   pub left : IfTold told (λ h. LeavesThese faults (records_to h.now.reads end) h)
   pub stopped : shut ≡ true → 0 < faults
@@ -39,7 +39,7 @@ run_answer (Ok done) = Ok done
 run_answer (Err log.DiskFault) = Err fault.Failed
 run_answer (Err refusal) = Err fault.OutOfMemory
 
--- an append by a run is one to the log, and what a crash leaves at each moment of it is what that says
+-- an append by a run's log is an append to the log, and so is what a crash leaves at each moment of it
 pub record IsRunAppend (told told' : Option History) (end end' : ℕ) (shut : Bool) (member : ℕ) (bytes : List ℕ) (result : Result (Unit {0}) OutFault) : Type 0 where
   pub answer : Result (Unit {0}) LogRefusal
   pub passed : result ≡ run_answer answer
@@ -47,12 +47,12 @@ pub record IsRunAppend (told told' : Option History) (end end' : ℕ) (shut : Bo
   pub shuts : (answer ≡ Err log.Shut) ↔ (shut ≡ true)
   pub gate : end' ≡ end_behind end (length bytes) answer
 
--- these records, and at Ok one more
+-- the records after an append
 abbrev pub records_on : List Record → Record → Result (Unit {0}) OutFault → List Record
 records_on records r (Ok done) = records ++ r ∷ []
 records_on records r (Err fault) = records
 
--- up to the gate stand the records of before, in order, and at Ok this one after them
+-- the records up to the gate are those of before, in order, and at Ok this one after them
 abbrev pub AddsExactly : Option History → Option History → ℕ → ℕ → Record → Result (Unit {0}) OutFault → Type 0
 AddsExactly None new end end' r result = new ≡ None
 AddsExactly (Some old) new end end' r result =
@@ -68,8 +68,8 @@ IsEmptyTo end empty h = IsTrue empty ↔ (records_to h.now.reads end ≡ [])
 
 -- ---- if no record was added
 
--- the records that count are those of before, in what reads give and, unless the disk is as it was, in each file
--- that a crash may leave now
+-- no record was added: the same records count in what reads give and, unless the disk is as it was, in each file that
+-- a crash may leave now
 pub record IsUnchanged (old new : History) : Type 0 where
   pub reads : counted new.now.reads ≡ counted old.now.reads
   pub crash : (new ≡ old) ⊎ LeavesRecords new (counted old.now.reads)

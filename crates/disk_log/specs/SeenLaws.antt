@@ -19,7 +19,7 @@ outside-more (s ∷ spans) span k out =
     let rest = outside-more spans span k out.1 in
     ((out.0, rest.0), rest.1)
 
--- bytes that were put at a place are those of before elsewhere
+-- writing bytes at an offset changes no byte outside their range
 module _ (old bytes : List ℕ) (at : ℕ) where
   size : length (with_bytes old at bytes) ≡ min at (length old) + length bytes + (length old - (at + length bytes))
   size = omega (arith, length-append (take at old ++ bytes) (drop (at + length bytes) old), length-append (take at old) bytes, length-take at old, length-drop (at + length bytes) old)

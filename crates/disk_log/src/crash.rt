@@ -10,7 +10,7 @@ use crate::moment::{Moment, Span};
 use std::alloc::Global;
 use wire_bcs::{OutOfMemory, Seq};
 
-/// What stands in a place that was written or tried since the last sync.
+/// What a crash leaves at an offset that was written, or tried, since the last sync.
 #[derive(Clone, Copy)]
 enum Content {
     /// The byte that was stable, 0 past the stable size.
@@ -21,16 +21,16 @@ enum Content {
     Other,
 }
 
-/// What a crash makes of the places that were written or tried since the last sync.
+/// What a crash leaves at all offsets that were written or tried since the last sync: they are parted in two at `cut`.
 #[derive(Clone, Copy)]
 struct Pick {
-    /// Where the later ones of these places begin.
+    /// The first offset of the second part.
     cut: u64,
-    /// What stands in the first places.
+    /// What is left in the first part.
     before: Content,
-    /// What stands in the later places.
+    /// What is left in the second part.
     behind: Content,
-    /// The other byte.
+    /// The byte of `Content::Other`.
     other: u8,
 }
 
@@ -65,7 +65,7 @@ fn first_touched(ranges: &[Span], most: u64) -> u64 {
     first
 }
 
-/// Where the bytes end that are not as they were.
+/// The end of the bytes that a crash does not leave as they were at the last sync.
 fn reach(pick: &Pick, most: u64) -> u64 {
     match (pick.before, pick.behind) {
         (Content::Old, Content::Old) => 0,

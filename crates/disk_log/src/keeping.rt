@@ -12,8 +12,8 @@ use crate::refusals::LogRefusal;
 use outside::{Keeper, OutFault};
 use wire_bcs::Seq;
 
-/// The lists are those of the records that were acknowledged, if the disk shows its bytes. A
-/// call that the log could not do counts one fault of the log's own.
+/// The lists are observable if the disk shows its bytes: those of the acknowledged records. A call that the log could
+/// not do counts one fault of the log's own.
 impl<K: Disk> Keeper for DiskLog<K> {
     ghost lists = { λ l. told_lists (K.history l.disk) l.end (length l.counts) };
 

@@ -22,7 +22,7 @@ use std::alloc::Global;
 use std::marker::Model;
 use wire_bcs::{OutOfMemory, Seq};
 
-/// Where a file must end before.
+/// No record, and no gate after one, may end at this offset or past it.
 const LIMIT: u64 = 1 << 63;
 
 /// A log of records of so many members over a disk. Contracts see the disk, where the gate stands
@@ -50,8 +50,7 @@ impl<K: Disk> Model for DiskLog<K> {
     ghost invariant = { λ s. IsGood (K.history s.disk) (K.extent s.disk) s.end s.members s.shut s.index };
 }
 
-/// What is known of a log when its records are read: where the gate stands after them, and where
-/// they stand.
+/// What reading a file's records gives: the offset of the gate after them, and the ranges of their bytes.
 #[derive(Drop)]
 struct Reading {
     end: u64,
@@ -261,7 +260,7 @@ impl<K: Disk> DiskLog<K> {
         self.end == 0
     }
 
-    /// Counts a fault of its own.
+    /// Adds one to the log's own count of faults; at 2^64 - 1 it stays.
     pub(crate) fn fault(&mut self) -> OutFault
         ensures answer { result ≡ fault.Failed }
         ensures later { self.old.faults ≤ self.new.faults }
@@ -271,7 +270,7 @@ impl<K: Disk> DiskLog<K> {
         OutFault::Failed
     }
 
-    /// The bytes of a record, which are read from the disk. Changes no record.
+    /// Reads the bytes of a member's record from the disk. Changes no record.
     pub(crate) fn read_record(&mut self, member: u32, place: u64) -> Result<Seq<u8>, OutFault>
         requires known { member < length self.old.counts }
         requires place { place < slice_index self.old.counts member }

@@ -9,7 +9,7 @@ use crate::moment::{Moment, Span};
 use std::alloc::Global;
 use wire_bcs::{OutOfMemory, Seq};
 
-/// The bytes with these at a place, or at the end if the place is past it.
+/// The bytes with others written over them from an offset on; at the end, if the offset is past it.
 pub(crate) fn overwritten(
     alloc: Global,
     old: &[u8],
@@ -40,7 +40,7 @@ fn settled(alloc: Global, bytes: &[u8]) -> Result<Moment, OutOfMemory>
     })
 }
 
-/// What reads give after a write, or a try, which leaves it.
+/// What reads give after a write; a failed one changes nothing.
 fn reads_behind(alloc: Global, reads: &[u8], change: &Change) -> Result<Seq<u8>, OutOfMemory>
     ensures { IfOk result (λ new. new ≡ (if change.now.failed then reads.now else with_bytes reads.now change.now.at change.now.bytes)) }
 {
@@ -50,7 +50,7 @@ fn reads_behind(alloc: Global, reads: &[u8], change: &Change) -> Result<Seq<u8>,
     overwritten(alloc, reads, change.at as usize, change.bytes.as_slice())
 }
 
-/// The moment after a write or a try.
+/// The moment after a write, or a failed one.
 fn touched(alloc: Global, moment: Moment, change: &Change) -> Result<Moment, OutOfMemory>
     requires { change.now.at + length change.now.bytes < 2 ^ 63 }
     ensures { IfOk result (λ m. m ≡ touched_by moment change.now) }

@@ -71,7 +71,7 @@ impl<K: Disk> RunLog<K> {
     }
 }
 
-/// What a run is answered.
+/// The answer to a run: a fault of the disk is a fault, and a log that is shut or full counts as out of memory.
 fn passed(answer: Result<(), LogRefusal>) -> Result<(), OutFault>
     ensures { result ≡ run_answer answer }
 {
@@ -84,7 +84,7 @@ fn passed(answer: Result<(), LogRefusal>) -> Result<(), OutFault>
     }
 }
 
-/// The lists are those of the records that were acknowledged, if the disk shows its bytes.
+/// The lists are observable if the disk shows its bytes: those of the acknowledged records.
 impl<K: Disk> Keeper for RunLog<K> {
     ghost lists = { λ l. told_lists (K.history l.disk) l.end (length l.counts) };
 

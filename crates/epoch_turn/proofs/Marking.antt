@@ -38,7 +38,7 @@ module _ (epoch : ℕ) (executed : List Execution) where
       by false e = ap (λ b. cond b (grown_all epoch executed (grown epoch executed g (take m.size left) m.last) (drop m.size left) ms) g) e
       by true e = let reaches = front_reaches (is_due_done executed) m.size left (let size = size_cons m ms in omega (arith, sizes, size)) e in absurd (omega (arith, reaches, is, less))
 
-  -- and else its checkpoint, and what the others add
+  -- if the first cut is done, its checkpoint is added, and then what the other cuts add
   pub goes_on : (g new : Growth) (ready : ℕ) (left txs back : List Due) (rest : List CutMark) (whole : Growth) → 1 ≤ length rest → ready ≡ front_length (is_due_done executed) left
       → (first_of_marks rest).size ≤ ready → txs ≡ take (first_of_marks rest).size left → back ≡ drop (first_of_marks rest).size left
       → new ≡ grown epoch executed g txs (first_of_marks rest).last → grown_all epoch executed g left rest ≡ whole → grown_all epoch executed new back (after_first rest) ≡ whole

@@ -76,7 +76,7 @@ finds_first c epoch held executed admitted is =
 
 -- ---- more certificates are held
 
--- those of admitted transactions stay what they were
+-- the dues of admitted transactions stay what they were if more certificates are held
 pub told_held : (held more : List Held) (admitted : List Admitted) → AreHeld held admitted → map (due_of (held ++ more)) admitted ≡ map (due_of held) admitted
 told_held held more [] each = refl
 told_held held more (a ∷ rest) each =

@@ -1,4 +1,4 @@
--- What a chain looks at of admitted transactions and of their cuts. Source: Sui Lutris.
+-- What a chain of checkpoints keeps of admitted transactions and of their cuts. Source: Sui Lutris.
 use Rattle.std.specs.Prelude.{ℕ, suc, ◌+◌, Bool, not, ◌&&◌, Option, List, [], ◌∷◌, take, drop, if◌then◌else◌}
 use Rattle.digest_core.specs.declared.Digest.{Digest}
 use Rattle.checkpoint_core.specs.declared.checkpoints.Item.{Item}
@@ -11,11 +11,11 @@ use Rattle.protocol_spec.specs.Member.Checkpoints.{held_of, names_same_origins, 
 use Rattle.epoch_turn.specs.declared.due.Due.{Due}
 use Rattle.epoch_turn.specs.declared.due.CutMark.{CutMark}
 
--- an admitted transaction, if these certificates are held
+-- what is kept of an admitted transaction, at a member that holds these certificates
 abbrev pub due_of : List Held → Admitted → Due
 due_of held a = record { tx = a.digest; same = names_same_origins (held_of held a.digest) a }
 
--- it is done if these are executed
+-- it is done: executed, and held with the origins with which it was admitted
 abbrev pub is_due_done : List Execution → Due → Bool
 is_due_done executed d = is_executed executed d.tx && d.same
 
@@ -32,7 +32,7 @@ abbrev pub cuts_of : List Admitted → List CutMark → List Cut
 cuts_of admitted [] = []
 cuts_of admitted (m ∷ ms) = record { txs = take m.size admitted; last = m.last } ∷ cuts_of (drop m.size admitted) ms
 
--- how many of them are cut
+-- how many transactions these cuts have
 abbrev pub size_of : List CutMark → ℕ
 size_of [] = 0
 size_of (m ∷ ms) = m.size + size_of ms
@@ -41,6 +41,6 @@ size_of (m ∷ ms) = m.size + size_of ms
 abbrev pub is_ordered : Admission → Held → Bool
 is_ordered a h = is_known a h.digest
 
--- the transaction of one that is not
+-- the transaction of a held certificate, if it is not in the sequence
 abbrev pub unordered : Admission → Held → Option Digest
 unordered a h = where_true (not (is_ordered a h)) h.digest

@@ -14,22 +14,22 @@ counted_after members member = if is_among members member then members else memb
 abbrev pub said_of_weight : List ℕ → ℕ → Counted
 said_of_weight stakes w = if is_quorum stakes w then counted.Ended w else counted.Weight w
 
--- what one more End adds to those of these members
+-- the answer to an End of this member after those of these members
 abbrev pub said_of_end : List ℕ → List ℕ → ℕ → Counted
 said_of_end stakes members member = if is_among members member then counted.Repeat else said_of_weight stakes (weight stakes (members ++ member ∷ []))
 
--- the greatest committee, only by its number of members
+-- 64 stakes: used to say that a member's number is below 64
 abbrev pub greatest : List ℕ
 greatest = replicate 64 0
 
--- how many they are; each was counted once, and is known in the greatest committee
+-- the count is the number of these members; they are distinct and below 64
 pub record IsCount (count : ℕ) (members : List ℕ) : Type 0 where
   pub many : count ≡ length members
   pub once : IsDistinct nat_eq members
   pub known : all_known greatest members ≡ true
 
--- what a member's sequence makes of it: a repeat changes nothing; else the member is counted, and the epoch ends
--- if those counted are a quorum with it
+-- the answer to an End agrees with the definition's sequence: a repeat changes nothing; else the member is counted,
+-- and the epoch ends if those counted are a quorum with it
 abbrev pub CountsAs : Rules → Sequence → ℕ → List ℕ → Counted → Type 0
 CountsAs r q member members counted.Repeat = (is_among q.counted member ≡ true) × (members ≡ q.counted)
 CountsAs r q member members (counted.Weight w) = (ends_with_member r q member ≡ false) × (members ≡ (counted_as false q member).counted) × (w ≡ weight r.stakes members)

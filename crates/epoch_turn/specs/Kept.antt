@@ -1,4 +1,4 @@
--- How a chain keeps its tables, and how it grows.
+-- The tables of a chain: what they stand for, what keeps them consistent, and how building adds to them.
 use Rattle.std.specs.Prelude.{◌≡◌, ℕ, ◌+◌, ◌≤◌, Bool, List, [], ◌∷◌, ◌++◌, map, take, drop, length, if◌then◌else◌}
 use Rattle.std.specs.List.{list_all}
 use Rattle.digest_core.specs.declared.Digest.{Digest}
@@ -16,7 +16,7 @@ use Rattle.epoch_turn.specs.declared.rows.Rows.{Rows}
 use Rattle.epoch_turn.specs.Chains.{Chaining}
 use Rattle.epoch_turn.specs.Dues.{is_due_done, due_item, size_of}
 
--- a tip stands after these checkpoints
+-- the tip is that of a chain of these checkpoints
 pub record Ends (items : List Checkpoint) (tip : Tip) : Type 0 where
   pub number : tip.number ≡ length items
   pub digest : tip.digest ≡ digest_before (last_of items)
@@ -26,7 +26,8 @@ pub record Ends (items : List Checkpoint) (tip : Tip) : Type 0 where
 abbrev pub shown : Rows → Chaining
 shown t = record { past = take t.opened t.items.items; built = t.items.items; due = t.due.items; marks = t.marks.items; done = t.done }
 
--- the epochs before built this many of the checkpoints, and each of the epoch's is that of the next of its cuts
+-- the tables are consistent: the first `opened` checkpoints are of the epochs before, the others are those of the
+-- first `tip.cuts` cuts of this epoch, which have `tip.taken` transactions
 pub record IsKept (t : Rows) : Type 0 where
   pub ends : Ends t.items.items t.tip
   pub split : t.opened + t.tip.cuts ≡ length t.items.items
@@ -38,12 +39,12 @@ pub record IsKept (t : Rows) : Type 0 where
 
 -- ---- steps of building
 
--- the items so far, and after them those of these transactions
+-- loop: the items so far, and after them those of these transactions
 abbrev pub items_after : List Execution → List Item → List Due → List Item
 items_after executed items [] = items
 items_after executed items (d ∷ ds) = items_after executed (items ++ due_item executed d ∷ []) ds
 
--- the next checkpoint
+-- the checkpoint of these transactions after the tip
 abbrev pub next_checkpoint : ℕ → List Execution → Tip → List Due → Bool → Checkpoint
 next_checkpoint epoch executed tip txs last = record {
   epoch = epoch;
@@ -69,7 +70,7 @@ grown_by g size c = record { fresh = g.fresh ++ c ∷ []; tip = tip_after g.tip 
 abbrev pub grown : ℕ → List Execution → Growth → List Due → Bool → Growth
 grown epoch executed g txs last = grown_by g (length txs) (next_checkpoint epoch executed g.tip txs last)
 
--- what the cuts add, up to the first that is not done
+-- the growth so far with the checkpoints of these cuts, up to the first that is not done
 abbrev pub grown_all : ℕ → List Execution → Growth → List Due → List CutMark → Growth
 grown_all epoch executed g due [] = g
 grown_all epoch executed g due (m ∷ ms) =
@@ -77,11 +78,11 @@ grown_all epoch executed g due (m ∷ ms) =
     then grown_all epoch executed (grown epoch executed g (take m.size due) m.last) (drop m.size due) ms
     else g
 
--- what the cuts after a chain's last checkpoint add
+-- what `advance` adds to the tables: the checkpoints of the cuts that have none yet
 abbrev pub growth_of : ℕ → List Execution → Rows → Growth
 growth_of epoch executed t = grown_all epoch executed (record { fresh = []; tip = t.tip }) (drop t.tip.taken t.due.items) (drop t.tip.cuts t.marks.items)
 
--- the tables with that, and with this many found done
+-- the growth was added to the tables, and this many transactions at the start are noted as done
 pub record Takes (g : Growth) (done : ℕ) (old new : Rows) : Type 0 where
   pub items : new.items.items ≡ old.items.items ++ g.fresh
   pub opened : new.opened ≡ old.opened
@@ -91,7 +92,7 @@ pub record Takes (g : Growth) (done : ℕ) (old new : Rows) : Type 0 where
   pub cut : new.cut ≡ old.cut
   pub found : new.done ≡ done
 
--- the tables as they were
+-- the tables are as before
 pub record Keeps (old new : Rows) : Type 0 where
   pub items : new.items.items ≡ old.items.items
   pub opened : new.opened ≡ old.opened

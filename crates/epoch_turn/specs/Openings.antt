@@ -8,15 +8,15 @@ use Rattle.version_assign.specs.Sharing.{KeepsShared}
 use Rattle.version_store.specs.Changed.{IsSingle}
 use Rattle.version_store.specs.Stores.{Stored}
 
--- an admission has the shared objects with which the epoch opened, one of each id
+-- an admission's opening objects are the shared ones of the epoch's, which have distinct ids as far as look-ups say
 abbrev pub Opens : List Object → List Object → Type 0
 Opens kept opening = KeepsShared kept opening × IsSingle opening
 
--- an object as it lives
+-- the change of an id: the live object, or none
 abbrev pub change_in : Stored → ObjectId → Change
 change_in s id = record { id = id; lives = live s.opening s.executed id }
 
--- the objects so far, and after them those with these ids
+-- loop: the changes so far, and after them those of these ids
 abbrev pub changes_after : Stored → List Change → List ObjectId → List Change
 changes_after s changes [] = changes
 changes_after s changes (id ∷ ids) = changes_after s (changes ++ change_in s id ∷ []) ids

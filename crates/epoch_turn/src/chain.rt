@@ -1,4 +1,4 @@
-//! The chain, and what it answers.
+//! A member's checkpoints over all its epochs, built as their transactions get done.
 
 ghost use Rattle.std.specs.Prelude.{◌≡◌, IfOk, OnErr, OnOk, drop, length, option_map, slice_get, true};
 ghost use Rattle.checkpoint_core.specs.Checkpoints.{transactions_in};

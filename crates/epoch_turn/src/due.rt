@@ -1,4 +1,4 @@
-//! What a chain looks at of admitted transactions and of their cuts.
+//! What a chain of checkpoints keeps of admitted transactions and of their cuts.
 
 ghost use Rattle.std.specs.Prelude.{◌≡◌, ◌≤◌, IfOk, drop, length, map};
 ghost use Rattle.epoch_turn.specs.Chains.{tx_of};
@@ -40,7 +40,7 @@ pub(crate) fn marks_from(marks: &[CutMark], place: usize) -> &[CutMark]
     &marks[place..]
 }
 
-/// Their digests.
+/// The digests of these transactions.
 pub(crate) fn digests_of(alloc: Global, due: &[Due]) -> Result<Vec<Digest>, OutOfMemory>
     ensures { IfOk result (λ txs. txs.items ≡ map tx_of due.now) }
 {
@@ -54,7 +54,7 @@ fn is_done(due: &Due, store: &Store) -> bool
     store.is_executed(&due.tx) && due.same
 }
 
-/// How many of them at the start are done.
+/// How many transactions at the start of the list are done.
 pub(crate) fn front_done(due: &[Due], store: &Store) -> usize
     ensures value { result ≡ front_length (is_due_done store.now.executed) due.now }
     ensures most { result ≤ length due.now }

@@ -37,7 +37,7 @@ impl Model for EndCount {
     ghost invariant = { λ c. IsCount c.count (take c.count c.members) };
 }
 
-/// What is said of this weight.
+/// The answer to an End with which those counted have this weight.
 fn said_of(committee: &Committee, weight: u64) -> Counted
     requires { weight ≤ total_of committee.now }
     ensures { result ≡ said_of_weight committee.now weight }

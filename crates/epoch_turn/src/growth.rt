@@ -1,4 +1,4 @@
-//! How a chain grows.
+//! The checkpoints that a chain is to add, made before any table changes.
 
 ghost use Rattle.std.specs.Prelude.{◌≡◌, ◌<◌, ◌≤◌, ◌^◌, [], IfOk, OnOk, length, map};
 ghost use Rattle.checkpoint_core.specs.Checkpoints as codecs;
@@ -47,7 +47,7 @@ fn effects_digest_in(store: &Store, tx: &Digest) -> Digest
     }
 }
 
-/// The items of these transactions, one after the other.
+/// The loop of [`items_of`].
 fn collect_items(alloc: Global, store: &Store, txs: &[Due]) -> Result<Seq<Item>, OutOfMemory>
     ensures { IfOk result (λ items. items ≡ items_after store.now.executed [] txs.now) }
 {
@@ -63,7 +63,7 @@ fn collect_items(alloc: Global, store: &Store, txs: &[Due]) -> Result<Seq<Item>,
     Ok(items)
 }
 
-/// The items of these transactions, in order.
+/// The checkpoint items of these transactions: digest and effects digest of each, in order.
 #[tactic(auto, using(crate::proofs::Building::items_all))]
 fn items_of(alloc: Global, store: &Store, txs: &[Due]) -> Result<Seq<Item>, OutOfMemory>
     ensures { IfOk result (λ items. items ≡ map (due_item store.now.executed) txs.now) }

@@ -1,4 +1,4 @@
-//! Held certificates and the sequence: how many at the start are in it, and the first that is not.
+//! What keeps a member from saying End: the first held certificate that is not in the sequence.
 
 ghost use Rattle.std.specs.Prelude.{◌≡◌, ◌+◌, ◌≤◌, drop, length, option_map, slice_get};
 ghost use Rattle.protocol_spec.specs.declared.answers.Held.{Held as H};

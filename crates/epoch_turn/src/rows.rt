@@ -14,21 +14,21 @@ use std::alloc::Global;
 use version_store::Store;
 use wire_bcs::{Duplicate, OutOfMemory, Seq};
 
-/// The tables.
+/// The checkpoints of all epochs, and of the present one the admitted transactions and their cuts.
 #[derive(Drop)]
 pub(crate) struct Rows {
     /// All checkpoints that were built.
     pub(crate) items: Vec<HashedCheckpoint>,
-    /// How many of them the epochs before built.
+    /// How many of the checkpoints are of the epochs before.
     pub(crate) opened: usize,
     pub(crate) tip: Tip,
     /// The transactions admitted in the epoch.
     pub(crate) due: Vec<Due>,
     /// The epoch's cuts.
     pub(crate) marks: Vec<CutMark>,
-    /// How many of the transactions they have.
+    /// How many transactions the cuts have: the first ones.
     pub(crate) cut: usize,
-    /// How many of the transactions at the start are done.
+    /// How many transactions at the start were found done.
     pub(crate) done: usize,
 }
 
@@ -144,7 +144,8 @@ impl Rows {
         self.done + front_done(due_from(&self.due, self.done), store)
     }
 
-    /// The checkpoints that come next.
+    /// The checkpoints of the cuts that have none yet, up to the first cut that is not done; `done` transactions at
+    /// the start are.
     fn growth(
         &self,
         alloc: Global,
@@ -167,7 +168,7 @@ impl Rows {
         Ok(growth)
     }
 
-    /// Takes them. A refusal changes nothing.
+    /// Adds the checkpoints that were made, and notes how many transactions are done. A refusal changes nothing.
     fn take(&mut self, growth: Growth, done: usize) -> Result<(), OutOfMemory>
         ensures ok { OnOk result (Takes growth done self.old self.new) }
         ensures err { OnErr result (Keeps self.old self.new) }

@@ -1,4 +1,4 @@
-//! A chain of checkpoints learns what was admitted.
+//! Reporting admitted transactions to a chain of checkpoints.
 
 ghost use Rattle.std.specs.Prelude.{◌≡◌, ◌+◌, ◌<◌, ◌≤◌, IfOk, OnOk, Some, length, option_map, slice_get, take};
 ghost use Rattle.protocol_spec.specs.Chain.Tests.{origins_eq};
@@ -24,7 +24,7 @@ fn is_same(held: &HeldBook, tx: &Digest, origins: &[Option<Digest>]) -> bool
     }
 }
 
-/// What a chain learns of the transaction that was admitted at a place.
+/// What a chain keeps of the transaction that was admitted at a place; none past the last.
 fn due_at(held: &HeldBook, admission: &Admission, place: usize) -> Option<Due>
     ensures { result ≡ option_map (due_of held.now) (slice_get admission.now.admission.admitted place) }
 {

@@ -438,7 +438,7 @@ module _ (b : Books) (executed : List Execution) (all : List Held) where
                 let is : IsDone kept tx n = stands.done tx n number before in
                 record { gave = is.gave; done = is.done; made = λ key. apart key tx planned ∙ is.made key }
 
-        -- and this one
+        -- the task that is kept now is done
         done_here : (tx : Digest) (n : ℕ) → h.digest ≡ tx → n ≡ length front → IsDone (kept ++ x ∷ []) tx n
         done_here tx n same at = record {
           gave = gave.0;

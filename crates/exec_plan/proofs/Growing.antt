@@ -85,7 +85,7 @@ module _ (before after : Admission) (txs : List Digest) (admits : Admits before 
       go false true there e = absurd (cc)
       go false false there e = admitted_grow h.digest ∙ ap (λ b. b || is_among txs h.digest) there ∙ none
 
-  -- and it wants what it wanted
+  -- a certificate that might run before wants what it wanted then
   pub wants_grow : (h : Held) → is_let before h ≡ true → wants_of after h ≡ wants_of before h
   unfolding wants_of
   wants_grow h may = go (has_shared_input h.cert.tx) refl (is_admitted before.admitted h.digest) refl may

@@ -61,7 +61,7 @@ front_mapped f done new left rest x first more whole =
     ∙ sym (ap (λ l. done ++ map f l) first)
     ∙ whole
 
--- the same, if an item may give nothing
+-- one item more is taken, the first of those that are left, if an item may give nothing
 pub front_picked : {A B : Type 0} (f : A → Option B) (done new : List B) (left rest : List A) (x : A) {all : List B} → left ≡ x ∷ rest → new ≡ done ++ option_to_list (f x) → done ++ filter_map f left ≡ all
     → new ++ filter_map f rest ≡ all
 front_picked {B = B} f done new left rest x first more whole =

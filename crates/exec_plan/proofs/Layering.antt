@@ -441,7 +441,7 @@ module _ (b : Books) (executed : List Execution) (planned : List Held) where
         (λ h is. let joined : Joins h = joins h is in false_both (is_executed executed h.digest) (is_planned planned h.digest) joined.not_before joined.not_planned)
         tx (turn_planned b (layer_of b executed planned) now tx there)
 
-    -- and after it none of them is ready
+    -- after the round none of its members is ready
     layer_rests : AreApart b.held → (place : ℕ) (h : Held) → slice_get b.held place ≡ Some h → joins_layer b executed planned h ≡ true
         → ready b (now ++ in_turn b now (layer_of b executed planned)) h ≡ None
     unfolding round_of

@@ -79,7 +79,7 @@ pub executed_stays : (s : Stored) (a : Admission) (h : Held) → is_executed s.e
 executed_stays s a h is =
     ap (λ (e : Bool). where_true (not e && is_let a h && list_all (is_origin_done s.executed) h.cert.origins && are_made s.executed a h) (left_as (books_of s a []) s.executed h)) is
 
--- nor is one that needs its admission
+-- a certificate that needs its admission is not left
 pub unlet_stays : (s : Stored) (a : Admission) (h : Held) → is_let a h ≡ false → left_in s a h ≡ None
 unlet_stays s a h out =
     ap (λ (m : Bool). where_true (not (is_executed s.executed h.digest) && m && list_all (is_origin_done s.executed) h.cert.origins && are_made s.executed a h) (left_as (books_of s a []) s.executed h)) out

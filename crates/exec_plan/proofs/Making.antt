@@ -140,7 +140,7 @@ unmade_rests s a h none =
     neither true o none = none
     neither false o none = refl
 
--- and not left
+-- a certificate is not left while it waits
 pub unmade_stays : (s : Stored) (a : Admission) (h : Held) → are_made s.executed a h ≡ false → left_in s a h ≡ None
 unmade_stays s a h none =
     ap (λ (m : Bool). where_true (not (is_executed s.executed h.digest) && is_let a h && list_all (is_origin_done s.executed) h.cert.origins && m) (left_as (books_of s a []) s.executed h)) none

@@ -14,15 +14,15 @@ use Rattle.protocol_spec.specs.declared.answers.Left.{Left}
 use Rattle.protocol_spec.specs.Member.Rounds.{Books, is_due, is_origin_done, left_as, may_run, ready}
 use Rattle.version_store.specs.Stores.{Stored}
 
--- the books of a store, the admission of its epoch, and what is held
+-- what the definition of a run works on, from a store, an admission and the held certificates
 abbrev pub books_of : Stored → Admission → List Held → Books
 books_of s a held = record { opening = s.opening; held = held; admission = a }
 
--- a held certificate of a transaction of valid shape, under the transaction's digest
+-- the certificate stands under its transaction's digest, and the transaction has a valid shape
 abbrev pub IsSound : Held → Type 0
 IsSound h = (shape_fault h.cert.tx ≡ None) × (h.digest ≡ transaction_digest h.cert.tx)
 
--- no transaction is held twice
+-- the digest of a held certificate; `AreApart` says that no transaction is held twice
 abbrev pub digest_of_held : Held → Digest
 digest_of_held h = h.digest
 
@@ -42,10 +42,10 @@ ready_in s a h = ready (books_of s a []) s.executed h
 abbrev pub effects_of : Execution → Effects
 effects_of x = x.gave.effects
 
--- the certificate as a run leaves it, if it is not executed although all that it waits for is
+-- the `Left` of a certificate, if it is not executed although all that it waits for is
 abbrev pub left_in : Stored → Admission → Held → Option Left
 left_in s a h = where_true (is_due (books_of s a []) s.executed h) (left_as (books_of s a []) s.executed h)
 
--- it may run and is not executed, although all its origins are
+-- the first test of `left_in`: it may run and is not executed, although all its origins are
 abbrev pub may_be_left : List Execution → Admission → Held → Bool
 may_be_left executed a h = not (is_executed executed h.digest) && is_let a h && list_all (is_origin_done executed) h.cert.origins

@@ -1,4 +1,4 @@
--- How the tasks and edges of a plan are laid out, certificate by certificate.
+-- The tasks and edges of a plan as the code lays them out: one certificate after the other, each with the edges to it.
 use Rattle.std.specs.Prelude.{◌≡◌, ℕ, List, [], ◌∷◌, ◌++◌, map, filter_map, position, length, Option, Some, None, slice_get, slice_set}
 use Rattle.indexmap.specs.IndexSet.{insert_key}
 use Rattle.digest_core.specs.declared.Digest.{Digest}
@@ -15,7 +15,7 @@ use Rattle.exec_plan.specs.declared.task.Want.{Want}
 use Rattle.exec_plan.specs.declared.link.Link.{Link}
 use Rattle.exec_plan.specs.Tasks.{Planned, edge_of, link_as, links_after, origin_of, slot_as, tasks_after}
 
--- the number of a version's maker, if these transactions are planned
+-- the number of the task that makes a version, if these are the planned transactions; none if none of them does
 abbrev pub number_in : List Digest → Option Producer → Option ℕ
 number_in keys None = None
 number_in keys (Some producers.Opening) = None
@@ -31,7 +31,7 @@ link_in vs keys w = link_as (length keys) w.key (found vs w) (number_in keys w.p
 abbrev pub bare_task : Held → List Want → Planned
 bare_task h wants = record { digest = h.digest; tx = h.cert.tx; wants = wants; gives = [] }
 
--- one more key is handed on
+-- the task with one more version to hand on
 abbrev pub with_give : Planned → ObjectKey → Planned
 with_give t key = record t { gives = t.gives ++ key ∷ [] }
 
@@ -39,7 +39,7 @@ abbrev pub given_at : List Planned → ℕ → ObjectKey → Option Planned → 
 given_at tasks number key None = tasks
 given_at tasks number key (Some t) = slice_set tasks number (with_give t key)
 
--- a task hands on what a link carries
+-- the tasks after a link: the task that it comes from hands on the link's version too
 abbrev pub given : List Planned → Link → List Planned
 given tasks l = given_at tasks l.from l.key (slice_get tasks l.from)
 
@@ -64,7 +64,7 @@ abbrev pub drafted_at : List Version → Admission → Drafted → Option Held �
 drafted_at vs a d None = d
 drafted_at vs a d (Some h) = drafted_with vs (wants_of a h) d h
 
--- and those of these certificates too
+-- the draft with the tasks of these certificates and the edges to them
 abbrev pub drafted_after : List Version → Admission → Drafted → List Held → Drafted
 drafted_after vs a d [] = d
 drafted_after vs a d (h ∷ hs) = drafted_after vs a (drafted_with vs (wants_of a h) d h) hs
@@ -73,11 +73,11 @@ drafted_after vs a d (h ∷ hs) = drafted_after vs a (drafted_with vs (wants_of 
 abbrev pub picked : List Held → List ℕ → List Held
 picked held places = filter_map (slice_get held) places
 
--- before the first
+-- the draft of no certificates
 abbrev pub nothing_drafted : Drafted
 nothing_drafted = record { keys = []; tasks = []; edges = [] }
 
--- the draft has the tasks of some certificates, in order, and the edges between them
+-- the draft is the definition's plan of some certificates
 pub record IsDraft (d : Drafted) : Type 0 where
   pub held : List Version
   pub admission : Admission

@@ -1,4 +1,4 @@
--- How the objects of a task are gathered.
+-- The loop that collects the objects on which a task executes.
 use Rattle.std.specs.Prelude.{Bool, true, false, List, [], ◌∷◌, ◌++◌, if◌then◌else◌}
 use Rattle.std.specs.Option.{option_to_list}
 use Rattle.chain_types.specs.declared.objects.Object.{Object}

@@ -1,4 +1,4 @@
--- How the outputs of a plan are kept, one after the other.
+-- The loop that keeps the outputs of a plan: each is written to the store, or left out.
 use Rattle.std.specs.Prelude.{◌≡◌, false, List, [], ◌∷◌, ◌++◌, Option, Some, None}
 use Rattle.digest_core.specs.declared.Digest.{Digest}
 use Rattle.chain_types.specs.declared.objects.Object.{Object}
@@ -29,7 +29,8 @@ IsNamed t (outcomes.Absent key origin) = Unit {0}
 IsNamed t outcomes.Unfit = Unit {0}
 IsNamed t outcomes.Waits = Unit {0}
 
--- so it is with each of these outputs, and no transaction is executed before its turn
+-- what the loop relies on: the effects of each output name its task's transaction, and no transaction is executed
+-- before its output comes
 abbrev pub CanBeKept : List Object → List Execution → List Planned → List (Digest × Outcome) → Type 0
 CanBeKept opening executed [] outs = Unit {0}
 CanBeKept opening executed (t ∷ ts) [] = Unit {0}

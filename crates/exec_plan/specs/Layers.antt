@@ -45,7 +45,7 @@ layers_within (suc n) b executed planned = layer_of b executed planned ++ layers
 unfoldable pub planned_of : Books → List Execution → List Held
 planned_of b executed = layers_within (length b.held) b executed []
 
--- ---- in turn
+-- ---- planned certificates executed one after the other
 
 -- what comes next, after this one more execution if there is one
 abbrev pub onto_kept : (List Execution → List Execution) → List Execution → Option Execution → List Execution

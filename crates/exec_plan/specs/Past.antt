@@ -1,4 +1,4 @@
--- A store as if more transactions had been executed.
+-- A store in which the planned transactions count as executed.
 use Rattle.std.specs.Prelude.{List, [], ◌++◌, map}
 use Rattle.digest_core.specs.declared.Digest.{Digest}
 use Rattle.effects_core.specs.declared.effects.Status.TheVariants as status

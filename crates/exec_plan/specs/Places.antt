@@ -5,8 +5,8 @@ use Rattle.std.specs.Ordering.{nat_cmp}
 use Rattle.protocol_spec.specs.declared.answers.Held.{Held}
 use Rattle.protocol_spec.specs.Chain.Words.{Each}
 
--- the places, in order, of some of these certificates, of which the first has this place; those left out are idle,
--- and at places after the last there is none
+-- the places, in ascending order, of certificates in this list, whose first has place `place`; every certificate whose
+-- place is not there is Idle, and a place past the list may follow
 abbrev pub Picks : (Held → Type 0) → ℕ → List ℕ → List Held → Type 0
 Picks Idle place places [] = Each (λ p. place ≤ p) places
 Picks Idle place [] (h ∷ hs) = Idle h × Picks Idle (suc place) [] hs
@@ -14,6 +14,6 @@ Picks Idle place (p ∷ ps) (h ∷ hs) = ((p ≡ place) × Picks Idle (suc place
 
 -- ---- sets of places, as ascending lists
 
--- one more place
+-- the set with one more place
 abbrev pub placed : List ℕ → ℕ → List ℕ
 placed set place = insert_key nat_cmp set place

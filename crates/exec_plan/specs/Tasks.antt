@@ -40,7 +40,7 @@ pub record Planned : Type 0 where
 
 -- ---- what the tasks want
 
--- the number of a transaction's task among these, from 0 on
+-- the place of a transaction among these certificates, counted from 0: the number of its task
 abbrev pub number_of : Digest → List Held → Option ℕ
 number_of tx [] = None
 number_of tx (h ∷ hs) = if is_of tx h then Some 0 else option_map suc (number_of tx hs)
@@ -65,7 +65,7 @@ origin_of (Some producer) = producer
 abbrev pub want_as : List Version → List Held → Wanted → Want
 want_as held front w = record { key = w.key; origin = origin_of w.producer; slot = slot_as (found held w) (maker_number front w.producer) }
 
--- what the edge to the task with this number carries, if there is one
+-- the link to task `to` for a wanted version: none if the version is held, or if no earlier task makes it
 abbrev pub link_as : ℕ → ObjectKey → Option Object → Option ℕ → Option Link
 link_as to key (Some o) maker = None
 link_as to key None None = None
@@ -74,7 +74,8 @@ link_as to key None (Some from) = Some (record { from = from; to = to; key = key
 abbrev pub link_of : List Version → List Held → Wanted → Option Link
 link_of held front w = link_as (length front) w.key (found held w) (maker_number front w.producer)
 
--- what these tasks want of the earlier ones and of one another, task by task, each in the order of its objects
+-- the links to the tasks of these certificates, from one another and from the earlier ones (`front`), task by task,
+-- each in the order of its objects
 abbrev pub links_after : List Version → Admission → List Held → List Held → List Link
 links_after held a front [] = []
 links_after held a front (h ∷ hs) = filter_map (link_of held front) (wants_of a h) ++ links_after held a (front ++ h ∷ []) hs
@@ -117,7 +118,7 @@ edges_of b executed = map edge_of (links_of b executed)
 unfoldable pub tasks_of : Books → List Execution → List Planned
 tasks_of b executed = tasks_after (versions b.opening executed) b.admission (links_of b executed) [] (planned_of b executed)
 
--- how many edges go to a task, and from it
+-- the wanted version comes by an edge: `takes_of` and `count_given` count the edges to a task and from it
 abbrev pub is_edge : Slot → Bool
 is_edge (slots.Here o) = false
 is_edge slots.Edge = true
@@ -131,14 +132,14 @@ count_given t = length t.gives
 
 -- ---- what comes of a task
 
--- what is there of a want: the object, what the next incoming edge carries, or nothing
+-- what a task gets for a wanted version: the held object, what the next incoming edge carries, or nothing
 abbrev pub first_carry : Slot → List Carry → Carry
 first_carry (slots.Here o) inputs = carries.Object o
 first_carry slots.Lacks inputs = carries.Lacks
 first_carry slots.Edge [] = carries.NotRun
 first_carry slots.Edge (input ∷ inputs) = input
 
--- and what the edges after it carry
+-- what the edges carry that are left for the next wanted versions
 abbrev pub other_carries : Slot → List Carry → List Carry
 other_carries (slots.Here o) inputs = inputs
 other_carries slots.Lacks inputs = inputs
@@ -154,7 +155,7 @@ is_not_run (carries.Object o) = false
 is_not_run carries.Lacks = false
 is_not_run carries.NotRun = true
 
--- the want, if nothing is there of it
+-- the wanted version, if nothing is there for it
 abbrev pub lacking : (Want × Carry) → Option Want
 lacking (w, carries.Object o) = None
 lacking (w, carries.Lacks) = Some w
@@ -172,8 +173,8 @@ abbrev pub outcome_on : Transaction → List Carry → Option Want → Outcome
 outcome_on t there (Some w) = outcomes.Absent w.key w.origin
 outcome_on t there None = outcome_with t (filter_map object_of there)
 
--- the first that applies: a transaction that makes what it wants was not executed; a version is lacking; they do not fit;
--- and else it is executed
+-- the outcome of a task, the first that applies: a transaction that makes what it wants was not executed; a version is
+-- lacking; the objects do not fit; else it is executed
 abbrev pub outcome_of : Planned → List Carry → Outcome
 outcome_of t inputs =
     if list_any is_not_run inputs then outcomes.Waits
@@ -211,8 +212,8 @@ outputs_of b executed = outputs output_of values_of (edges_of b executed) (tasks
 abbrev pub is_origin_kept : List Execution → Want → Bool
 is_origin_kept executed w = is_maker_done executed (Some w.origin)
 
--- An executed task is kept after these if all that makes what it wants is among them, and none of the keys that it
--- writes is held or written twice.
+-- the execution of a task as it is kept after these executions: only if all that makes what it wants is executed, and
+-- no key that it writes is held already or written twice
 abbrev pub keep_as : List Object → List Execution → Planned → Outcome → Option Execution
 keep_as opening executed t (outcomes.Done gave) =
     where_true (list_all (is_origin_kept executed) t.wants && writes_new (versions opening executed) (written_keys gave))
@@ -221,7 +222,7 @@ keep_as opening executed t (outcomes.Absent key origin) = None
 keep_as opening executed t outcomes.Unfit = None
 keep_as opening executed t outcomes.Waits = None
 
--- what is kept of these outputs of these tasks, from the first on
+-- what is kept of these outputs, one after the other, each after those kept before it
 abbrev pub kept_of : List Object → List Execution → List Planned → List (Digest × Outcome) → List Execution
 kept_of opening executed [] outs = []
 kept_of opening executed (t ∷ ts) [] = []

@@ -1,4 +1,4 @@
--- What is wanted of the objects of a certificate's transaction that are left.
+-- The loop over the versions that a certificate's transaction wants: its gas coin, and then what its inputs name.
 use Rattle.std.specs.Prelude.{List, [], ◌∷◌, filter, map, Option, Some, None}
 use Rattle.digest_core.specs.declared.Digest.{Digest}
 use Rattle.chain_types.specs.declared.transactions.Input.{Input}
@@ -17,7 +17,7 @@ named_in (inputs.Owned r) = named.Version (key_of r)
 named_in (inputs.Immutable r) = named.Version (key_of r)
 named_in (inputs.Shared id initial mutable) = named.Shared id initial
 
--- what is wanted of an object of this origin, if these versions are assigned
+-- the version wanted for a named object of this origin; for a shared one the assigned version
 abbrev pub want_of : Option (List Assigned) → Named → Option Digest → Wanted
 want_of assigned (named.Version key) origin = wanted_version key origin
 want_of assigned (named.Shared id initial) origin = wanted_as id initial (assigned_id assigned id)
@@ -27,7 +27,7 @@ abbrev pub named_left : Option ObjectKey → List Input → List Named
 named_left None inputs = map named_in (filter is_object inputs)
 named_left (Some key) inputs = named.Version key ∷ map named_in (filter is_object inputs)
 
--- what is wanted of these objects, each of its origin
+-- the versions wanted for these objects, each with its origin
 abbrev pub wants_left : Option (List Assigned) → List Named → List (Option Digest) → List Wanted
 wants_left assigned [] origins = []
 wants_left assigned (n ∷ ns) [] = []

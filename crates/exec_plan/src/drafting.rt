@@ -1,4 +1,4 @@
-//! The tasks and edges of a plan.
+//! Laying out the tasks and edges of a plan.
 
 ghost use Rattle.std.specs.Prelude.{◌≡◌, ◌++◌, ◌∷◌, ◌^◌, ◌<◌, [], IfOk, OnOk, filter_map, length, map, option_copied, slice_get};
 ghost use Rattle.std.specs.Option.{option_to_list};
@@ -41,7 +41,7 @@ fn number_in(numbers: &IndexSet<Digest>, maker: &Option<Producer>) -> Option<u32
     }
 }
 
-/// Where a version comes from that is held, or that the task with this number makes.
+/// Where a wanted version comes from: it is held, or the task with this number makes it, or nothing does.
 fn slot_of(found: Option<&HashedObject>, maker: Option<u32>) -> Slot
     ensures { result ≡ slot_as (option_copied found.entry) maker }
 {
@@ -54,7 +54,7 @@ fn slot_of(found: Option<&HashedObject>, maker: Option<u32>) -> Slot
     }
 }
 
-/// What the edge to a task carries, if there is one.
+/// The link to task `to` for a wanted version: none if the version is held, or if no task makes it.
 fn link_of(
     to: u32,
     key: ObjectKey,
@@ -92,14 +92,14 @@ fn add_link(links: &mut Seq<Link>, link: Option<Link>) -> Result<(), OutOfMemory
     }
 }
 
-/// What a task wants, and the links to it.
+/// The versions that a task wants, and the links to it.
 #[derive(Drop)]
 struct Wanted {
     wants: Seq<Want>,
     links: Seq<Link>,
 }
 
-/// Adds what is wanted of one version, and the link to the next task, if there is one.
+/// Adds a wanted version of the next task, and the link to that task, if one carries the version.
 fn add_need(
     store: &Store,
     numbers: &IndexSet<Digest>,
@@ -123,7 +123,7 @@ fn add_need(
     add_link(links, link_of(to, need.key(), there, number))
 }
 
-/// What this certificate's task wants, the next after these, and the links to it.
+/// The versions that a certificate's task wants, and the links to it, if it is the next task after the planned ones.
 fn wanting(
     alloc: Global,
     store: &Store,
@@ -145,7 +145,7 @@ fn wanting(
     Ok(Wanted { wants, links })
 }
 
-/// The task that a link comes from hands on its version.
+/// Notes at the task that a link comes from that it hands on the link's version.
 fn give(tasks: &mut Vec<Task<'_>>, link: &Link) -> Result<(), OutOfMemory>
     ensures { OnOk result (tasks.new.items ≡ given tasks.old.items link.now) }
 {
@@ -155,7 +155,7 @@ fn give(tasks: &mut Vec<Task<'_>>, link: &Link) -> Result<(), OutOfMemory>
     }
 }
 
-/// So do the tasks of all these links.
+/// [`give`] for each of these links.
 fn give_all(tasks: &mut Vec<Task<'_>>, links: &[Link]) -> Result<(), OutOfMemory>
     ensures { OnOk result (tasks.new.items ≡ all_given tasks.old.items links.now) }
 {
@@ -182,7 +182,7 @@ fn add_edges(edges: &mut Seq<Edge>, links: &[Link]) -> Result<(), OutOfMemory>
     Ok(())
 }
 
-/// The tasks and edges so far. Contracts see them, and the planned transactions by their numbers.
+/// The tasks and edges laid out so far. Contracts see these, and the planned transactions in the order of their tasks.
 #[derive(Drop)]
 pub(crate) struct Draft<'a> {
     numbers: IndexSet<Digest>,
@@ -199,7 +199,7 @@ impl<'a> Model for Draft<'a> {
 }
 
 impl<'a> Draft<'a> {
-    /// Nothing so far, with room for so many tasks.
+    /// The empty draft, with room for so many tasks.
     pub(crate) fn with_room(alloc: Global, tasks: usize) -> Result<Draft<'a>, OutOfMemory>
         ensures { IfOk result (λ draft. draft ≡ nothing_drafted) }
     {
@@ -210,7 +210,8 @@ impl<'a> Draft<'a> {
         })
     }
 
-    /// With the task of one more certificate, and the edges to it.
+    /// The draft with the task of one more certificate, and the edges to it. More than 2^31 tasks count as out of
+    /// memory.
     fn with(
         self,
         alloc: Global,
@@ -259,7 +260,7 @@ impl<'a> Draft<'a> {
     }
 }
 
-/// With the task of the certificate at a place, if there is one.
+/// The draft with the task of the certificate at a place, if there is one.
 #[tactic(auto, using(protocol_spec::proofs::ListLemmas::each_at))]
 fn with_at<'a>(
     draft: Draft<'a>,

@@ -120,7 +120,8 @@ fn next_object<'a>(inputs: &'a [Input]) -> Option<(Named, &'a [Input])>
     None
 }
 
-/// The first object that is left, and the inputs after it: the gas coin, unless it is taken, and then what the inputs name.
+/// Takes the first named object off: the gas coin, unless it was taken before, else the first that the inputs name;
+/// and the inputs after it.
 fn split_named<'a>(gas: Option<ObjectKey>, inputs: &'a [Input]) -> Option<(Named, &'a [Input])>
     ensures { MatchOption result (named_left gas inputs.now ≡ []) (λ found. named_left gas inputs.now ≡ found.0 ∷ named_left None found.1.now) }
 {

@@ -45,7 +45,7 @@ fn are_kept(store: &Store, wants: &[Want]) -> bool
     true
 }
 
-/// Whether what a task gave is kept: all that makes what it wants is executed, and all that it writes is new.
+/// Whether what a task gave is to be kept: all that makes what it wants is executed, and all that it writes is new.
 fn keeps(store: &Store, task: &Task<'_>, gave: &HashedExecuted) -> Result<bool, OutOfMemory>
     ensures { IfOk result (λ keeps. keeps ≡ (list_all (is_origin_kept store.now.executed) task.now.wants && writes_new (held_in store.now) (written_keys gave.now))) }
 {
@@ -78,7 +78,7 @@ fn keep_done(
     store.write(hashed, objects, consumed)
 }
 
-/// Likewise for what came of a task.
+/// [`keep_done`] for the output of a task; one that was not executed is left out.
 fn keep_one(
     alloc: Global,
     store: &mut Store,
@@ -100,7 +100,7 @@ fn keep_one(
     }
 }
 
-/// The outputs, the last one first.
+/// The outputs in reverse, so that the first can be taken off the end.
 fn turned(outputs: Seq<(Digest, Outcome)>) -> Seq<(Digest, Outcome)>
     ensures { reverse result ≡ outputs }
 {
@@ -116,7 +116,7 @@ fn take_first(left: &mut Seq<(Digest, Outcome)>) -> Option<(Digest, Outcome)>
     left.pop()
 }
 
-/// Likewise for all these tasks, from the first on.
+/// Keeps the outputs of these tasks, from the first on: writes them to the store, and adds copies of their effects.
 pub(crate) fn keep_all(
     alloc: Global,
     store: &mut Store,

@@ -52,7 +52,7 @@ fn may_be_left(store: &Store, admission: &Admission, held: &Held) -> bool
         && are_origins_done(store, held.cert.get().origins.as_slice())
 }
 
-/// The certificate as it is left, if it is.
+/// The `Left` of a certificate: it is not executed although all that it waits for is; none if it is not left.
 #[tactic(auto, using(crate::proofs::LeftOver::left_so))]
 fn left_one(alloc: Global, store: &Store, admission: &Admission, held: &Held) -> Option<Left>
     ensures { result ≡ left_in store.now admission.now.admission held.now }
@@ -70,7 +70,7 @@ fn left_one(alloc: Global, store: &Store, admission: &Admission, held: &Held) ->
     })
 }
 
-/// Likewise for the certificate at a place, none if there is none.
+/// [`left_one`] for the certificate at a place, if there is one.
 fn left_at(
     alloc: Global,
     store: &Store,
@@ -86,7 +86,7 @@ fn left_at(
     }
 }
 
-/// Those left so far, and one more, if there is one.
+/// Adds one to those left, if there is one.
 fn add_left(left: &mut Seq<Left>, one: Option<Left>) -> Result<(), OutOfMemory>
     ensures { OnOk result (left.new ≡ left_add left.old one) }
 {
@@ -96,7 +96,7 @@ fn add_left(left: &mut Seq<Left>, one: Option<Left>) -> Result<(), OutOfMemory>
     }
 }
 
-/// Those of these places that are left.
+/// The certificates at these places that a run leaves, in order.
 fn left_among(
     alloc: Global,
     store: &Store,

@@ -36,7 +36,7 @@ fn joins(past: &Past<'_>, admission: &Admission, held: &Held) -> bool
     awaited.is_none()
 }
 
-/// Likewise for the certificate at a place, if there is one.
+/// [`joins`] for the certificate at a place; false if there is none.
 fn joins_at(past: &Past<'_>, admission: &Admission, held: &[Held], place: usize) -> bool
     ensures { result ≡ joins_of past.now admission.now.admission (slice_get held.now place) }
 {
@@ -46,7 +46,7 @@ fn joins_at(past: &Past<'_>, admission: &Admission, held: &[Held], place: usize)
     }
 }
 
-/// Adds a place, if it is to be.
+/// Adds a place to the list, if `is` holds.
 fn add_where(places: &mut Seq<usize>, place: usize, is: bool) -> Result<(), OutOfMemory>
     ensures { OnOk result (places.new ≡ (if is then places.old ++ place ∷ [] else places.old)) }
 {
@@ -56,7 +56,7 @@ fn add_where(places: &mut Seq<usize>, place: usize, is: bool) -> Result<(), OutO
     Ok(())
 }
 
-/// Those of these places whose certificates join the next layer.
+/// The places, among these, whose certificates join the next layer.
 fn layer_among(
     alloc: Global,
     past: &Past<'_>,
@@ -99,7 +99,7 @@ fn digests_at(alloc: Global, held: &[Held], places: &[usize]) -> Result<Seq<Dige
     Ok(txs)
 }
 
-/// Adds one transaction.
+/// Adds a transaction to those planned.
 fn add_planned(planned: &mut IndexSet<Digest>, tx: Digest) -> Result<(), OutOfMemory>
     ensures { OnOk result (planned.new.keys ≡ insert_key digest_eq planned.old.keys tx) }
 {
@@ -107,7 +107,7 @@ fn add_planned(planned: &mut IndexSet<Digest>, tx: Digest) -> Result<(), OutOfMe
     Ok(())
 }
 
-/// Adds transactions.
+/// Adds transactions to those planned.
 fn add_all_planned(planned: &mut IndexSet<Digest>, txs: &[Digest]) -> Result<(), OutOfMemory>
     ensures { OnOk result (planned.new.keys ≡ insert_all digest_eq planned.old.keys txs.now) }
 {
@@ -119,19 +119,19 @@ fn add_all_planned(planned: &mut IndexSet<Digest>, txs: &[Digest]) -> Result<(),
     Ok(())
 }
 
-/// What is planned so far.
+/// A plan in the making: the layers so far.
 #[derive(Drop)]
 pub(crate) struct Ahead {
     /// The planned transactions.
     pub(crate) planned: IndexSet<Digest>,
     /// The places of their certificates, in the order in which they are planned.
     pub(crate) places: Seq<usize>,
-    /// All places that were taken from those that wait for nothing.
+    /// All places that were taken out of the wait lists for the plan, those of `places` among them.
     pub(crate) taken: Seq<usize>,
 }
 
 impl Ahead {
-    /// Nothing so far. Takes no memory.
+    /// No layers. Takes no memory.
     fn new(alloc: Global) -> Ahead
         ensures planned { result.planned.keys ≡ [] }
         ensures places { result.places ≡ [] }

@@ -76,7 +76,7 @@ impl<'a> Model for Task<'a> {
     ghost invariant = { λ t. IsSoundTask t.held.now.cert.tx t.held.now.digest };
 }
 
-/// What there is of the wants of a task: all objects, or the first want of which there is nothing.
+/// The objects on which a task executes, or the first wanted version for which there is none.
 #[derive(Debug, Drop)]
 enum Gathered {
     All(Seq<HashedObject>),
@@ -90,7 +90,7 @@ fn is_not_run(carry: &Carry) -> bool
     matches!(carry, Carry::NotRun)
 }
 
-/// Whether that is so of one of these.
+/// Whether a transaction that makes one of these wanted versions was not executed.
 fn any_not_run(inputs: &[Carry]) -> bool
     ensures { result ≡ list_any is_not_run inputs.now }
 {
@@ -102,7 +102,7 @@ fn any_not_run(inputs: &[Carry]) -> bool
     false
 }
 
-/// What is there of a want, and what the edges after it carry.
+/// What a task gets for a wanted version, and what the edges carry that are left for the next ones.
 fn carry_for<'a>(slot: &Slot, inputs: &'a [Carry]) -> (Carry, &'a [Carry])
     ensures first { result.0 ≡ first_carry slot.now inputs.now }
     ensures others { result.1.now ≡ other_carries slot.now inputs.now }
@@ -117,7 +117,7 @@ fn carry_for<'a>(slot: &Slot, inputs: &'a [Carry]) -> (Carry, &'a [Carry])
     }
 }
 
-/// Whether there is nothing of a want.
+/// Whether there is no object for a wanted version although its maker was executed.
 fn is_lacking(carry: &Carry) -> bool
     ensures { result ≡ is_lacking carry.now }
 {
@@ -154,7 +154,7 @@ fn gather(alloc: Global, wants: &[Want], inputs: &[Carry]) -> Result<Gathered, O
     Ok(Gathered::All(objects))
 }
 
-/// What is handed on under a key.
+/// What an edge carries of the version with this key, after this outcome of its maker.
 fn carry_of(outcome: &Outcome, key: &ObjectKey) -> Carry
     ensures { result ≡ carry_of outcome.now key.now }
 {
@@ -179,14 +179,14 @@ impl<'a> Task<'a> {
         }
     }
 
-    /// It hands on one more version.
+    /// Adds a version that the task hands on.
     pub(crate) fn give(&mut self, key: ObjectKey) -> Result<(), OutOfMemory>
         ensures { OnOk result (self.new ≡ with_give self.old key) }
     {
         self.gives.push(key)
     }
 
-    /// What it wants.
+    /// The versions that the task wants.
     pub(crate) fn wants(&self) -> &[Want]
         ensures { result.now ≡ self.now.wants }
     {
@@ -200,7 +200,7 @@ impl<'a> Task<'a> {
         owned_keys(alloc, &self.held.cert.get().tx)
     }
 
-    /// What comes of it on these objects.
+    /// The outcome of the task on these objects.
     fn outcome_with(
         &self,
         alloc: Global,
@@ -220,7 +220,7 @@ impl<'a> Task<'a> {
         Ok(Outcome::Done(gave))
     }
 
-    /// What comes of it if its edges carry these.
+    /// The outcome of the task if its incoming edges carry these.
     #[tactic(auto, using(crate::proofs::Gathering::gathered_is))]
     fn outcome(&self, alloc: Global, inputs: &[Carry]) -> Result<Outcome, OutOfMemory>
         ensures { IfOk result (λ outcome. outcome ≡ outcome_of self.now inputs.now) }
@@ -262,7 +262,7 @@ fn written_at(objects: &[HashedObject], key: &ObjectKey) -> Carry
     Carry::Lacks
 }
 
-/// What is handed on under these keys.
+/// What the outgoing edges carry, one for each key.
 fn carries_of(
     alloc: Global,
     outcome: &Outcome,

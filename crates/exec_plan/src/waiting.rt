@@ -50,8 +50,8 @@ impl Waiting {
         }
     }
 
-    /// Keeps a held certificate's place until its transaction is admitted, under the first transaction that it
-    /// waits for, or for the next run.
+    /// Files a held certificate that is not executed: until its transaction is admitted, under the first transaction
+    /// that it waits for, or for the next run.
     fn file(
         &mut self,
         past: &Past<'_>,
@@ -77,7 +77,7 @@ impl Waiting {
         }
     }
 
-    /// Files one more held certificate, after these.
+    /// [`Waiting::hold`] with a view of the store.
     fn hold_behind(
         &mut self,
         past: &Past<'_>,
@@ -125,7 +125,7 @@ impl Waiting {
         self.file_each(&Past::of(store, &none), admission, held, woken.as_slice())
     }
 
-    /// What [`Waiting::hold`] does, for the certificate at a place, if there is one.
+    /// Files the certificate at a place, if there is one.
     fn file_at(
         &mut self,
         past: &Past<'_>,
@@ -142,7 +142,7 @@ impl Waiting {
         }
     }
 
-    /// Likewise for the certificates at these places.
+    /// Files the certificates at these places, which are in no list.
     pub(crate) fn file_each(
         &mut self,
         past: &Past<'_>,

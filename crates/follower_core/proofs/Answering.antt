@@ -75,7 +75,7 @@ module _ (tip : Tip) (c : Checkpoint) (txs : List Transaction) where
   pub counts_agree : refusal_before tip c txs ≡ None → length txs ≡ length c.items
   counts_agree h = (Decides-eqb (length txs) (length c.items)).0 (where_not_true (length txs == length c.items) (refused.Count (length txs) (length c.items)) (cases_behind h).1)
 
-  -- and its number is how many were applied before
+  -- the number of a checkpoint that is not refused is how many were applied before
   pub number_is : refusal_before tip c txs ≡ None → c.number ≡ applied_in tip
   number_is h = numbered tip.before c (linked (link_answer tip.before c) (cases_behind h).0)
 

@@ -29,8 +29,8 @@ found_from known place (i ∷ is) = with_found (known i.tx) place (found_from kn
 
 -- ---- one checkpoint
 
--- what is said of the checkpoint of this number if a follower refuses it. (One that was built and is handed in with the
--- transactions of its items is refused only if one of them is stuck or differs.)
+-- the refusal of catching up for a checkpoint of this number that a follower refused. (A checkpoint that was built and
+-- is handed in with the transactions of its items is refused only if one of them is stuck or differs.)
 abbrev pub refusal_as : ℕ → FollowRefusal → CatchUpRefusal
 refusal_as n refused.Down = stopped.Stuck n 0
 refusal_as n (refused.Link refusal) = stopped.Stuck n 0
@@ -49,13 +49,14 @@ abbrev pub applied_with : State → Checkpoint → Result (List Transaction) ℕ
 applied_with s c (Err place) = Err (stopped.Stuck c.number place)
 applied_with s c (Ok txs) = applied_unless s c txs (refusal_of s c txs)
 
--- where a checkpoint leads; stuck at the first place whose transaction is not known
+-- the follower's state after a checkpoint, or why it is refused: stuck at the first place whose transaction is not
+-- known, or for a cause of `refusal_of`
 abbrev pub applied_by : Known → State → Checkpoint → Result State CatchUpRefusal
 applied_by known s c = applied_with s c (found_from known 0 c.items)
 
 -- ---- checkpoints in order
 
--- those of the epochs before this one
+-- the checkpoints of the epochs before this one
 abbrev pub before_epoch : ℕ → List Checkpoint → List Checkpoint
 before_epoch epoch cs = filter (λ (c : Checkpoint). nat_lt c.epoch epoch) cs
 
@@ -63,25 +64,26 @@ abbrev pub caught_from : Result State CatchUpRefusal → (State → Result State
 caught_from (Ok s) go = go s
 caught_from (Err refusal) go = Err refusal
 
--- where checkpoints that are taken in order lead, or why the first that is not applied is refused
+-- the state after checkpoints that are taken in order, or why the first that is not applied is refused
 abbrev pub caught_up : Known → State → List Checkpoint → Result State CatchUpRefusal
 caught_up known s [] = Ok s
 caught_up known s (c ∷ cs) = caught_from (applied_by known s c) (λ (t : State). caught_up known t cs)
 
 -- ---- the step at a place
 
--- memory was refused
+-- whether the refusal is that memory ran out
 abbrev pub is_wanting : CatchUpRefusal → Bool
 is_wanting (stopped.Stuck number place) = false
 is_wanting (stopped.Differs number place) = false
 is_wanting stopped.OutOfMemory = true
 
--- where the checkpoint at a place leads, if there is one and it is of an epoch before this one
+-- one turn of the loop over the archive: the checkpoint at a place is applied if there is one and its epoch is before
+-- this one; else the state stays
 abbrev pub passed_at : Known → ℕ → State → Option Checkpoint → Result State CatchUpRefusal
 passed_at known epoch s None = Ok s
 passed_at known epoch s (Some c) = if nat_lt c.epoch epoch then applied_by known s c else Ok s
 
--- how many were applied: 1 then, else 0
+-- how many checkpoints that turn applies: 1 if there is one and its epoch is before this one, else 0
 abbrev pub counted_at : ℕ → Option Checkpoint → ℕ
 counted_at epoch None = 0
 counted_at epoch (Some c) = if nat_lt c.epoch epoch then 1 else 0

@@ -38,7 +38,7 @@ given_on t (Some objects) = if fits t objects then Some (execution t objects) el
 unfoldable pub given : Objects → Transaction → Option Executed
 given m t = given_on t (read_by m t)
 
--- and where that leads
+-- the course after a transaction with this digest that was executed with this outcome
 abbrev pub with_given : Course → Digest → Executed → Course
 with_given m tx x = record {
   map = map_after m.map x;
@@ -50,7 +50,7 @@ abbrev pub behind_given : Course → Transaction → Option Executed → Course
 behind_given m t None = m
 behind_given m t (Some x) = with_given m (transaction_digest t) x
 
--- one transaction, which changes nothing if it has no effects
+-- the course after one transaction, unchanged if the transaction has no effects
 abbrev pub behind : Course → Transaction → Course
 behind m t = behind_given m t (given m.map t)
 
@@ -64,23 +64,24 @@ behind_all m (t ∷ ts) = behind_all (behind m t) ts
 abbrev pub is_held : Course → ObjectId → Bool
 is_held m id = is_some (get m.map id) || has_id m.gone id
 
--- it writes an object that it does not name, and so creates, under an id that is held
+-- the transaction creates this object that it writes (it does not name the id), though a version of the id is held
 abbrev pub creates_held : Course → Transaction → Object → Bool
 creates_held m t o = not (has_id (named_ids t) o.id) && is_held m o.id
 
 abbrev pub written_ids : Executed → List ObjectId
 written_ids x = map (λ (o : Object). o.id) x.objects
 
--- it gives nothing, writes one id twice, or creates what is held
+-- the outcome cannot stand: there is none, it writes one id twice, or it creates an object whose id is held
 abbrev pub is_bad : Course → Transaction → Option Executed → Bool
 is_bad m t None = true
 is_bad m t (Some x) = repeats id_eq (written_ids x) || list_any (creates_held m t) x.objects
 
--- its shape is not valid, or it was applied before in this epoch, or what it gives is bad
+-- a transaction cannot be applied here: its shape is not valid, it was applied before in this epoch, or its outcome is
+-- bad
 unfoldable pub is_stuck : Course → Transaction → Bool
 is_stuck m t = is_some (shape_fault t) || (has_digest m.ran (transaction_digest t) || is_bad m t (given m.map t))
 
--- its effects are not those of the item
+-- the refusal if the digest of the effects is not the one that the item lists
 abbrev pub differs : ℕ → Digest → Digest → Option FollowRefusal
 differs place had want = where_true (not (digest_eq had want)) (refused.Differs place had want)
 
@@ -95,7 +96,8 @@ place_refusal m place item t = first_some (
     where_true (is_stuck m t) (refused.Stuck place) ∷
     differs_in place (given m.map t) item.effects ∷ [])
 
--- the first of these, of the transactions from this place on
+-- the refusal of the first transaction, from this place on, that does not stand after those before it; none if all
+-- stand
 abbrev pub first_bad : Course → ℕ → List Item → List Transaction → Option FollowRefusal
 first_bad m place [] ts = None
 first_bad m place (i ∷ is) [] = None

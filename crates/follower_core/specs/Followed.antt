@@ -22,10 +22,10 @@ joined handed = flat_map (λ (h : Handed). h.txs) handed
 unfoldable pub followed : List Object → List Handed → Objects
 followed opening handed = (fold_all (map_of opening) (joined handed)).map
 
--- and the effects of each, none if it had none
+-- the effects of each transaction in that execution, in order; none where a transaction has no effects
 unfoldable pub followed_effects : List Object → List Handed → List (Option Effects)
 followed_effects opening handed = (fold_all (map_of opening) (joined handed)).effects
 
--- what the checkpoints say of the effects of each
+-- the effects digest that the checkpoints list for each transaction, in order
 abbrev pub told_effects : List Handed → List (Option Digest)
 told_effects handed = map (λ (i : Item). Some i.effects) (flat_map (λ (h : Handed). h.checkpoint.items) handed)

@@ -31,7 +31,7 @@ applied_in tip = wanted_number tip.before
 
 -- ---- where an applied checkpoint leads
 
--- a new epoch begins with the live objects, and nothing of it was applied or deleted
+-- the course at the start of the next epoch: the same live objects, and nothing applied or deleted in it yet
 abbrev pub turned : Course → Course
 turned m = record { map = m.map; ran = []; gone = [] }
 
@@ -54,7 +54,7 @@ abbrev pub link_refusal : Result (Unit {0}) LinkRefusal → Option FollowRefusal
 link_refusal (Ok done) = None
 link_refusal (Err refusal) = Some (refused.Link refusal)
 
--- the first of the causes for which no transaction is looked at
+-- the first of the causes that are tried before any transaction is looked at, none if none holds
 unfoldable pub refusal_before : Tip → Checkpoint → List Transaction → Option FollowRefusal
 refusal_before tip c txs = first_some (
     where_true (not tip.up) refused.Down ∷
@@ -62,13 +62,13 @@ refusal_before tip c txs = first_some (
     where_true (not (c.epoch == tip.epoch)) (refused.Epoch c.epoch tip.epoch) ∷
     where_true (not (length txs == length c.items)) (refused.Count (length txs) (length c.items)) ∷ [])
 
--- the first cause in order, none if the checkpoint is applied
+-- why a checkpoint is refused: the first cause in order, none if it is applied
 unfoldable pub refusal_of : State → Checkpoint → List Transaction → Option FollowRefusal
 refusal_of s c txs = first_some (refusal_before s.tip c txs ∷ first_bad s.course 0 c.items txs ∷ [])
 
 -- ---- what is answered, and what stands then
 
--- nothing, or this refusal
+-- `Ok` without a refusal, else `Err` of it
 abbrev pub unless : Option FollowRefusal → Result (Unit {0}) FollowRefusal
 unless refusal = unless_refused refusal tt
 
@@ -82,21 +82,22 @@ is_memory (refused.Stuck place) = false
 is_memory (refused.Differs place had want) = false
 is_memory refused.OutOfMemory = true
 
--- the number of checkpoints, or the refusal; memory may be refused if the transactions are looked at
+-- what `apply` may answer: the number of applied checkpoints, or the refusal of `refusal_of`; instead, once the
+-- transactions are looked at, that memory was refused
 abbrev pub Answers : State → Checkpoint → List Transaction → Result ℕ FollowRefusal → Type 0
 Answers s c txs (Ok count) = (refusal_of s c txs ≡ None) × (count ≡ applied_in s.tip + 1)
 Answers s c txs (Err refusal) =
     (is_memory refusal ≡ false → refusal_of s c txs ≡ Some refusal)
     × (is_memory refusal ≡ true → refusal_before s.tip c txs ≡ None)
 
--- if memory was refused the follower is down, and any other refusal changes nothing
+-- the state after that answer: if memory was refused the follower is down, and any other refusal changes nothing
 abbrev pub state_behind : State → Checkpoint → List Transaction → Result ℕ FollowRefusal → State
 state_behind s c txs (Ok count) = behind_checkpoint s c txs
 state_behind s c txs (Err refusal) = if is_memory refusal then record { course = s.course; tip = record { before = s.tip.before; epoch = s.tip.epoch; up = false } } else s
 
 -- ---- checkpoints in order
 
--- each is applied where those before it lead
+-- no checkpoint is refused in the state after those before it
 abbrev pub AreApplied : State → List Handed → Type 0
 AreApplied s [] = Unit {0}
 AreApplied s (h ∷ hs) = (refusal_of s h.checkpoint h.txs ≡ None) × AreApplied (behind_checkpoint s h.checkpoint h.txs) hs

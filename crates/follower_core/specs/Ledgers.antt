@@ -9,7 +9,7 @@ use Rattle.protocol_spec.specs.Member.Sequential.{Objects, without_id}
 use Rattle.protocol_spec.specs.Member.Versions.{id_cmp}
 use Rattle.follower_core.specs.Courses.{Course}
 
--- what can be taken back to, and what stands now
+-- a ledger: the course that `take_back` goes back to (`kept`), and the one that stands now (`present`)
 pub record Ledger : Type 0 where
   pub kept : Course
   pub present : Course
@@ -17,11 +17,11 @@ pub record Ledger : Type 0 where
 abbrev pub Entries : Type 0
 Entries = List (ObjectId × Object)
 
--- another object under an id, or none
+-- changes that are not kept yet: under each id the object that replaces what was there, or none if it is taken out
 abbrev pub Changes : Type 0
 Changes = List (ObjectId × Option Object)
 
--- the objects under these ids
+-- the map that the entries of the kept table stand for
 abbrev pub objects_under : Entries → Objects
 objects_under entries = from_entries {R = id_cmp} entries
 
@@ -29,12 +29,12 @@ abbrev pub changed : Objects → ObjectId → Option Object → Objects
 changed m id None = without_id m id
 changed m id (Some o) = insert m id o
 
--- the objects under these ids, if these are changed
+-- the map of the entries with the changes put over it
 abbrev pub changed_by : Entries → Changes → Objects
 changed_by entries [] = objects_under entries
 changed_by entries (e ∷ es) = changed (changed_by entries es) e.0 e.1
 
--- what a change makes of what was there
+-- what stands under an id, in terms of its change (if there is one) and of the kept object
 abbrev pub overlaid : Option (Option Object) → Option Object → Option Object
 overlaid None was = was
 overlaid (Some change) was = change

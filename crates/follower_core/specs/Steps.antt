@@ -22,7 +22,7 @@ abbrev pub with_read : List Object → Option Object → Option (List Object)
 with_read done None = None
 with_read done (Some o) = Some (done ++ o ∷ [])
 
--- the objects so far and those of the inputs after them, none once one is missing
+-- the objects read so far, followed by those that the inputs name, in order; none once one is missing
 abbrev pub reads_from : Objects → Option (List Object) → List Input → Option (List Object)
 reads_from m None is = None
 reads_from m (Some done) [] = Some done
@@ -34,12 +34,12 @@ abbrev pub with_named : List ObjectId → Option ObjectId → List ObjectId
 with_named ids None = ids
 with_named ids (Some id) = insert_key id_eq ids id
 
--- the ids, and then those that the inputs name, each once
+-- the ids so far, followed by those that the inputs name, each once
 abbrev pub named_after : List ObjectId → List Input → List ObjectId
 named_after ids [] = ids
 named_after ids (i ∷ is) = named_after (with_named ids (named_id i)) is
 
--- an object that is written, has none of these ids, and has one that is held
+-- `creates_held` over the list of named ids: the object's id is none of them, and a version of it is held
 abbrev pub creates_in : Course → List ObjectId → Object → Bool
 creates_in m named o = not (has_id named o.id) && is_held m o.id
 
@@ -53,18 +53,19 @@ without_ids m ids = record m { map = fold without_id m.map ids; gone = insert_al
 
 -- ---- what stands
 
--- what is given, none if it is bad
+-- the outcome of a transaction if it can stand, none if it is bad (`is_bad`)
 abbrev pub good : Course → Transaction → Option Executed → Option Executed
 good m t None = None
 good m t (Some x) = if is_bad m t (Some x) then None else Some x
 
--- what a transaction gives, none if it is stuck
+-- the outcome of a transaction after those before it, none if it is stuck
 unfoldable pub standing : Course → Transaction → Option Executed
 standing m t =
     if is_some (shape_fault t) then None else
     (if has_digest m.ran (transaction_digest t) then None else good m t (given m.map t))
 
--- nothing is refused, or it is this, or memory is
+-- the answer of a check against the refusal that is due: `Ok` if there is none, and else that refusal, or that memory
+-- was refused
 abbrev pub Stands : Result (Unit {0}) FollowRefusal → Option FollowRefusal → Type 0
 Stands (Ok done) refusal = refusal ≡ None
 Stands (Err e) refusal = is_memory e ≡ false → refusal ≡ Some e

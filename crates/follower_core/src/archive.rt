@@ -1,4 +1,4 @@
-//! Where checkpoints and transactions are kept.
+//! The [`Archive`]: where a follower finds checkpoints in order, and transactions by their digests.
 
 ghost use Rattle.std.specs.Prelude.{◌≡◌, List, Option, IfSome, length, option_map, slice_get};
 ghost use Rattle.chain_types.specs.Transactions.{transaction};

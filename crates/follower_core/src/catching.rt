@@ -37,7 +37,7 @@ impl From<OutOfMemory> for CatchUpRefusal {
     }
 }
 
-/// Why the transactions of a checkpoint are not found.
+/// Why the transactions of a checkpoint were not collected: one is not known, or memory was refused.
 #[derive(Clone, Copy, Debug, PartialEq, Eq)]
 enum Unfound {
     Missing { place: u64 },
@@ -92,7 +92,7 @@ fn find_all<A: Archive>(
     Ok(txs)
 }
 
-/// What is said of a checkpoint of this number that a follower refused.
+/// The refusal of [`catch_up`] for a checkpoint of this number that the follower refused with `refusal`.
 fn refusal_as(number: u64, refusal: &FollowRefusal) -> CatchUpRefusal
     ensures { result ≡ refusal_as number refusal.now }
 {

@@ -1,4 +1,4 @@
-//! The follower.
+//! The [`Follower`]: applies checkpoints with their transactions one after the other.
 
 ghost use Rattle.std.specs.Prelude.{◌≡◌, ◌-◌, ◌<◌, ◌^◌, All, IfErr, IfOk, None, OnErr, OnOk, Some, false, if◌then◌else◌, length};
 ghost use Rattle.std.specs.FinMap.{values};

@@ -1,4 +1,4 @@
-//! What applied checkpoints leave.
+//! The law of the follower: its objects are those of the sequential execution.
 
 ghost use Rattle.std.specs.Prelude.{◌≡◌, List, map, option_map};
 ghost use Rattle.chain_types.specs.declared.objects.Object.{Object};

@@ -86,7 +86,7 @@ fn settle_one(objects: &mut IndexMap<ObjectId, Object>, id: ObjectId, change: Op
     }
 }
 
-/// Does the changes, for which there is room, and leaves none.
+/// Writes all changes into the objects, which have room for them, and leaves no changes.
 fn settle_all(
     objects: &mut IndexMap<ObjectId, Object>,
     changes: &mut IndexMap<ObjectId, Option<Object>>,
@@ -100,7 +100,7 @@ fn settle_all(
     }
 }
 
-/// Puts an object into its place.
+/// Inserts an object of the hash map into the map that is ordered by id.
 fn place_one(
     live: &mut BTreeMap<ObjectId, Object>,
     id: ObjectId,
@@ -135,7 +135,7 @@ fn values_of(alloc: Global, map: BTreeMap<ObjectId, Object>) -> Result<Vec<Objec
 }
 
 impl Ledger {
-    /// Nothing. Takes no memory.
+    /// A ledger without objects, applied transactions or deleted ids. Takes no memory.
     pub(crate) fn new(alloc: Global) -> Ledger
         ensures kept { result.kept ≡ record { map = empty; ran = []; gone = [] } }
         ensures present { result.present ≡ record { map = empty; ran = []; gone = [] } }

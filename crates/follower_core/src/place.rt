@@ -43,7 +43,8 @@ fn delete_all(ledger: &mut Ledger, ids: &[ObjectId]) -> Result<(), OutOfMemory>
     Ok(())
 }
 
-/// Writes what a transaction gave that was not applied in this epoch.
+/// Writes a transaction's outcome: its objects, its deleted ids, and that it was applied. It was not before in this
+/// epoch.
 fn write(ledger: &mut Ledger, tx: &Digest, executed: &Executed) -> Result<(), OutOfMemory>
     requires { has_digest ledger.old.present.ran tx.now ≡ false }
     ensures kept { ledger.new.kept ≡ ledger.old.kept }

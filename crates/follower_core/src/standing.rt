@@ -20,7 +20,7 @@ use std::alloc::Global;
 use tx_check::{ShapeRefusal, check_shape, named_id, repeats_object};
 use wire_bcs::OutOfMemory;
 
-/// Whether the shape is not valid.
+/// Whether the transaction's shape is not valid, which needs no look at the objects.
 fn has_fault(alloc: Global, tx: &Transaction) -> Result<bool, OutOfMemory>
     ensures { IfOk result (λ fault. fault ≡ is_some (shape_fault tx.now)) }
 {
@@ -31,7 +31,7 @@ fn has_fault(alloc: Global, tx: &Transaction) -> Result<bool, OutOfMemory>
     }
 }
 
-/// What the sequential execution gives for a transaction of valid shape, none if it has no effects.
+/// Executes a transaction of valid shape on the live objects; none if it has no effects.
 #[tactic(auto, unfolding(crate::specs::Courses::given))]
 fn given(
     alloc: Global,
@@ -55,7 +55,7 @@ fn given(
     }
 }
 
-/// Notes an id that was not seen before.
+/// Adds an id to the set; it is not there yet.
 fn note(seen: &mut IndexSet<ObjectId>, id: ObjectId) -> Result<(), OutOfMemory>
     requires { has_id seen.old.keys id ≡ false }
     ensures { OnOk result (seen.new.keys ≡ seen.old.keys ++ id ∷ []) }
@@ -133,7 +133,8 @@ fn is_bad(
     Ok(creates_any(ledger, &named, executed.objects.as_slice()))
 }
 
-/// What a transaction of valid shape gives, none if it gives nothing or what it gives is bad.
+/// The outcome of a transaction of valid shape; none if it has no effects, or if they cannot stand after those before
+/// it.
 fn good_given(
     alloc: Global,
     ledger: &Ledger,
@@ -156,7 +157,8 @@ fn good_given(
     }
 }
 
-/// What a transaction gives after those before it, none if it is stuck.
+/// Executes a transaction after those before it, and writes nothing yet; none if it is stuck: if its shape is not
+/// valid, it was applied in this epoch, or its outcome cannot stand.
 #[tactic(auto, unfolding(crate::specs::Steps::standing), using(crate::proofs::Ids::no_fault))]
 pub(crate) fn standing(
     alloc: Global,

@@ -12,7 +12,7 @@ use digest_core::Digest;
 use std::alloc::Global;
 use wire_bcs::{OutOfMemory, Seq};
 
-/// What a follower goes on from.
+/// Where a follower stands in the chain of checkpoints, and whether it still works.
 #[derive(Clone, Copy, Debug, PartialEq, Eq)]
 pub struct Tip {
     /// The number and the digest of the last checkpoint.

@@ -114,7 +114,7 @@ pub record IsAtOpening (s : Setting) (txs : List Transaction) (m : Member) : Typ
   pub course : (left_by s txs m.past past).course ≡ fresh_course m.opening
   pub tip : IsTip (left_by s txs m.past past).tip m.epoch m.past
 
--- and after all those of an epoch that has ended
+-- after all checkpoints of an epoch that has ended, a follower is where the member's steps of that epoch lead
 pub record IsAtEnd (s : Setting) (txs : List Transaction) (m : Member) : Type 0 where
   pub all : AreFollowed s txs (built m)
   pub objects : (left_by s txs (built m) all).course.map ≡ after_steps m.opening (map (step_of m) (flat_map admitted_in m.sequence.cuts))

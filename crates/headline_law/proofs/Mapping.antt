@@ -99,7 +99,7 @@ found (f ∷ es) sorted e (inr h) = go (eq_by_cmp id_cmp e.0 f.0) refl (found es
 abbrev object_of : Entry → Object
 object_of e = e.1
 
--- and what is found is the object of an entry
+-- an object that is found is that of an entry
 listed : (es : List Entry) (id : ObjectId) (o : Object) → find id_cmp id es ≡ Some o → Has (map object_of es) o
 listed [] id o e = absurd (cc)
 listed (f ∷ es) id o e = go (eq_by_cmp id_cmp id f.0) e (listed es id o)

@@ -148,7 +148,7 @@ module _ (s : Setting) (distinct : AreApart s.opening) (txs : List Transaction) 
     pub end-objects : values (left_by s txs (built (member_in s a)) end-is.all).course.map ≡ opening_at s (world_after s (front ++ back)).sequences (suc (member_in s a).epoch)
     end-objects = ap (λ (k : Objects). values k) end-is.objects ∙ sym opening-left
 
-    -- and so it is where another opened the next epoch
+    -- what the thread of one member leaves is also what another member opened the next epoch with
     module _ (n : ℕ) (seat : Seat) (at : slice_get (world_after s (front ++ back)).seats n ≡ Some seat) (epoch : (member_in s seat).epoch ≡ suc (member_in s a).epoch) where
       abbrev m : Member
       m = member_in s seat

@@ -91,7 +91,7 @@ read-reports text t read trust run_is name members h =
     let it = told (setting_of trust t.setup) name members t.events h in
     was-final (setting_of trust t.setup) t.events run_is (set-up-apart trust t.setup) name members (read-roll text t read trust it.front name members it.back it.split) it
 
--- and in the report of each prefix of its lines
+-- what is final by a line stands in the report of each prefix of a schedule that a text says
 pub read-front : (text : List ℕ) (t : Schedule) → schedule_of text ≡ Ok t → (trust : Trust) → (front back : List Event) → t.events ≡ front ++ back → IsHonestRun (setting_of trust t.setup) front
     → (name : Name) (members : List ℕ) → Has (report (setting_of trust t.setup) front) (final_by name members) → WasFinal (setting_of trust t.setup) front name members
 read-front text t read trust front back cut honest name members h =

@@ -42,7 +42,7 @@ module _ (s : Setting) where
     pub same : seat.records ≡ records
     pub can : CanTurn (member_in s seat)
 
-  -- so it is with the records before each turn
+  -- at the records before each turn the member could turn (`IsTurning`), after some prefix of the run
   abbrev TurnsIn : List Event → List Record → Type 0
   TurnsIn events records = (front back : List Record) → records ≡ front ++ (record_as.Turn ∷ back) → IsTurning events front
 
@@ -160,7 +160,7 @@ module _ (s : Setting) where
         (subst (λ (rs : List Record). IsFront (of (front ++ record_as.Turn ∷ [])).past (of rs).past) (append_assoc front (record_as.Turn ∷ []) back ∙ sym split) (past-grows s.rules s.opening back (front ++ record_as.Turn ∷ []))))
         (past-built (of seat.records))
 
-    -- and no other of that epoch is built later
+    -- no other checkpoint of the epoch is built after the turn out of it
     none-added : (front back : List Record) → seat.records ≡ front ++ (record_as.Turn ∷ back) → (of front).epoch ≡ epoch → (c : Checkpoint) → Has (built (of seat.records)) c → c.epoch ≡ epoch → Has (built (of front)) c
     none-added front back split same c h e =
         built-beyond s.rules (of front) (of seat.records) (subst (λ (rs : List Record). IsBeyond (of front) (of rs)) (append_assoc front (record_as.Turn ∷ []) back ∙ sym split)

@@ -30,7 +30,8 @@ use Rattle.world_spec.specs.Run.{report}
 use Rattle.world_spec.specs.Assumptions.{IsHonestRun}
 use Rattle.block_law.specs.Orderly.{AreApart}
 
--- `fork K T1 T2`, if a member meets two certificates that consume one version, and `halted T1 T2` ever after
+-- whether a text is `fork K T1 T2` (a member meets two certificates that consume one version) or `halted T1 T2` (it
+-- met them before); one function for each kind of text
 abbrev pub halts_vote : VoteText → Bool
 halts_vote (vote_text.Halted first second) = true
 halts_vote text = false
@@ -92,10 +93,10 @@ is_alarm (line.Ack m tx text) = halts_ack text
 is_alarm (line.Restart m text) = is_bad text
 is_alarm l = false
 
--- no line of the report says so
+-- no line of the report is an alarm
 abbrev pub IsCalm : Setting → List Event → Type 0
 IsCalm s events = (l : Line) → Has (report s events) l → is_alarm l ≡ false
 
--- under the run assumptions
+-- under the run assumptions no line of a report is an alarm
 abbrev pub ReportsAreCalm : Type 0
 ReportsAreCalm = (s : Setting) (events : List Event) → IsHonestRun s events → AreApart s.opening → IsCalm s events

@@ -23,7 +23,7 @@ money_held (content.Limit value) = 0
 abbrev pub HoldsAmount : Object → Type 0
 HoldsAmount o = money_held o.content < amount_limit
 
--- and so is the value of a counter and of a limit
+-- whatever number an object holds is an amount: its money, or the value of a counter or a limit
 abbrev pub IsAmount : Object → Type 0
 IsAmount o = amount_of o.content < amount_limit
 
@@ -38,6 +38,7 @@ HasBytes (inputs.Shared id initial mutable) = Unit {0}
 abbrev pub MoneyStaysAmounts : Type 0
 MoneyStaysAmounts = (t : Transaction) (objects : List Object) → Each HoldsAmount objects → Each HoldsAmount (execution t objects).objects
 
--- likewise for values too, which may come from pure bytes
+-- if all numbers in the objects that a transaction reads are amounts, and its pure inputs are bytes, so are all
+-- numbers in what it writes
 abbrev pub AmountsStayAmounts : Type 0
 AmountsStayAmounts = (t : Transaction) (objects : List Object) → Each HasBytes t.inputs → Each IsAmount objects → Each IsAmount (execution t objects).objects

@@ -11,6 +11,7 @@ use Rattle.protocol_spec.specs.Member.Sequence.{seen}
 abbrev pub IsAssignedAbove : List Admitted → Admitted → Type 0
 IsAssignedAbove before b = (a : Admitted) → Has before a → (u v : Assigned) → Has a.assigned u → Has b.assigned v → u.id ≡ v.id → u.mutable ≡ true → u.version < v.version
 
--- so it is in every sequence, whatever its entries are: a version is assigned to one transaction at most that writes it
+-- in every sequence, whatever its entries are, each admitted transaction is assigned versions above those of the
+-- writers before it: so a version is assigned to at most one transaction that writes it
 abbrev pub AssignedVersionsRise : Type 0
 AssignedVersionsRise = (r : Rules) (opening : List Object) (epoch : ℕ) (entries : List (List ℕ)) → Along IsAssignedAbove [] (seen r opening epoch entries).admission.admitted

@@ -25,7 +25,7 @@ pub record WasCast (s : Setting) (events : List Event) (tx : Transaction) (origi
   pub free : vote_refusal (ballot (member_in s seat)) tx (transaction_digest tx) ≡ None
   pub named : vote_origins (ballot (member_in s seat)) tx ≡ origins
 
--- so was each vote that stands in a journal, in every run
+-- in every run, each vote that stands in a member's journal was cast in this way
 abbrev pub EveryVoteWasCast : Type 0
 EveryVoteWasCast = (s : Setting) (events : List Event) (m : ℕ) (seat : Seat) → slice_get (world_after s events).seats m ≡ Some seat
     → (tx : Transaction) (origins : List (Option Digest)) → Has seat.records (record_as.Vote tx origins) → WasCast s events tx origins

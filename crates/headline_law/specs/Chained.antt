@@ -54,8 +54,8 @@ pub record AreOneChain (p q : Member) : Type 0 where
   pub higher : (u v : Version) → Holds p u → Holds q v → u.object.id ≡ v.object.id → v.object.version < u.object.version → IsPassedOn p v u
   pub taker : (x y : Step) → IsExecutedAs p x → IsExecutedAs q y → (o : Object) → MayWrite x o → MayWrite y o → x.tx ≡ y.tx
 
--- so it is for two members of one epoch, at any two moments of a run under the run assumptions; the members, and
--- the moments, may be the same
+-- under the run assumptions, the versions that two members of one epoch hold, at any two moments of the run, are one
+-- chain; the members, and the moments, may be the same
 abbrev pub VersionsAreOneChain : Type 0
 VersionsAreOneChain = (s : Setting) (front back : List Event) → IsHonestRun s (front ++ back) → AreApart s.opening
     → (m n : ℕ) (a b : Seat) → slice_get (world_after s front).seats m ≡ Some a → slice_get (world_after s (front ++ back)).seats n ≡ Some b

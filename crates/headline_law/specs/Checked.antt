@@ -57,7 +57,7 @@ CertifiedAgrees = (s : Setting) (events : List Event) → IsHonestRun s events �
     → (links : List Link) → IsCertified s.rules.stakes s.rules.accepts links → IsHonestChain s (world_after s events) links
     → AgreesWith s (world_after s events) links
 
--- so it is in every run of every schedule, whose set-up opens with objects of different ids
+-- `CertifiedAgrees` for every run of every schedule: its set-up always opens with objects of different ids
 abbrev pub CertifiedAgreesInSchedules : Type 0
 CertifiedAgreesInSchedules = (trust : Trust) (lines : List Setup) (events : List Event) → IsHonestRun (setting_of trust lines) events
     → (links : List Link) → IsCertified (setting_of trust lines).rules.stakes (setting_of trust lines).rules.accepts links → IsHonestChain (setting_of trust lines) (world_after (setting_of trust lines) events) links

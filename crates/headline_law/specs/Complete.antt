@@ -23,48 +23,48 @@ pub record MayExecute (m : Member) (h : Held) (objects : List Object) : Type 0 w
   pub may : may_run (books m) h ≡ true
   pub there : present (books m) m.executed h ≡ Some objects
 
--- if it was not executed, none of its keys is there already, and none is written twice
+-- a certificate that may execute and was not executed writes no key that is there already, and no key twice
 abbrev pub WritesNewKeys : Type 0
 WritesNewKeys = (s : Setting) (events : List Event) → IsHonestRun s events → AreApart s.opening
     → (m : ℕ) (seat : Seat) → slice_get (world_after s events).seats m ≡ Some seat
     → (h : Held) (objects : List Object) → MayExecute (member_in s seat) h objects → is_executed (member_in s seat).executed h.digest ≡ false
     → writes_new (versions (member_in s seat).opening (member_in s seat).executed) (written_keys (execution h.cert.tx objects)) ≡ true
 
--- so it is ready
+-- a certificate that may execute and was not executed is ready
 abbrev pub PresentIsReady : Type 0
 PresentIsReady = (s : Setting) (events : List Event) → IsHonestRun s events → AreApart s.opening
     → (m : ℕ) (seat : Seat) → slice_get (world_after s events).seats m ≡ Some seat
     → (h : Held) (objects : List Object) → MayExecute (member_in s seat) h objects → is_executed (member_in s seat).executed h.digest ≡ false
     → ready (books (member_in s seat)) (member_in s seat).executed h ≡ Some (executes_as h (execution h.cert.tx objects))
 
--- its inputs are all there, and it is ready on them
+-- a held certificate whose inputs are all there, and that is ready on them
 pub record IsReady (m : Member) (h : Held) : Type 0 where
   pub objects : List Object
   pub there : present (books m) m.executed h ≡ Some objects
   pub ready_is : ready (books m) m.executed h ≡ Some (executes_as h (execution h.cert.tx objects))
 
--- so is each that is due: not executed, although all its origins and assigned writers were
+-- each certificate that is due (not executed, although all its origins and assigned writers were) is ready
 abbrev pub DueIsReady : Type 0
 DueIsReady = (s : Setting) (events : List Event) → IsHonestRun s events → AreApart s.opening
     → (m : ℕ) (seat : Seat) → slice_get (world_after s events).seats m ≡ Some seat
     → (h : Held) → Has (member_in s seat).held h → is_due (books (member_in s seat)) (member_in s seat).executed h ≡ true
     → IsReady (member_in s seat) h
 
--- no two of them write one key, so that none keeps another out of a round
+-- no two certificates that may execute write one key, so none keeps another out of a round
 abbrev pub NothingClashes : Type 0
 NothingClashes = (s : Setting) (events : List Event) → IsHonestRun s events → AreApart s.opening
     → (m : ℕ) (seat : Seat) → slice_get (world_after s events).seats m ≡ Some seat
     → (h k : Held) (objects others : List Object) → MayExecute (member_in s seat) h objects → MayExecute (member_in s seat) k others
     → (key : ObjectKey) → Has (written_keys (execution h.cert.tx objects)) key → Has (written_keys (execution k.cert.tx others)) key → h.digest ≡ k.digest
 
--- so the next round executes what is ready
+-- the next round executes each certificate that is ready
 abbrev pub NextRoundTakesAll : Type 0
 NextRoundTakesAll = (s : Setting) (events : List Event) → IsHonestRun s events → AreApart s.opening
     → (m : ℕ) (seat : Seat) → slice_get (world_after s events).seats m ≡ Some seat
     → (h : Held) (x : Execution) → Has (member_in s seat).held h → ready (books (member_in s seat)) (member_in s seat).executed h ≡ Some x
     → is_executed ((member_in s seat).executed ++ round_of (books (member_in s seat)) (member_in s seat).executed) h.digest ≡ true
 
--- and what is due
+-- the next round executes each certificate that is due
 abbrev pub NextRoundTakesDue : Type 0
 NextRoundTakesDue = (s : Setting) (events : List Event) → IsHonestRun s events → AreApart s.opening
     → (m : ℕ) (seat : Seat) → slice_get (world_after s events).seats m ≡ Some seat

@@ -25,7 +25,7 @@ pub record IsWhole (r : Rules) (q : Sequence) : Type 0 where
   pub cuts : flat_map admitted_in q.cuts ≡ q.admission.admitted
   pub quorum : is_quorum r.stakes (weight r.stakes q.counted) ≡ true
 
--- so it is at the end of an epoch
+-- a sequence that has ended is whole in this sense
 abbrev pub EndsAreWhole : Type 0
 EndsAreWhole = (r : Rules) (opening : List Object) (epoch : ℕ) (entries : List (List ℕ)) → (seen r opening epoch entries).ended ≡ true → IsWhole r (seen r opening epoch entries)
 

@@ -28,13 +28,13 @@ pub record LineExecutes (s : Setting) (events : List Event) (m workers : ℕ) (x
   pub executed : Has (member_in s seat).executed x
   pub told : Has (lines_of s (world_after s events) (event.Run m workers)) (effects_line (world_after s events) x.gave.effects)
 
--- so it is with all that the member holds and that is ready before the line, or after some rounds of its run: but for what
--- writes a key that a certificate held before it writes in the same round
+-- a `run` line after these events executes each held certificate that is ready before the line or after some rounds of
+-- its run, except one that writes a key which an earlier held certificate writes in the same round
 abbrev pub ReadyIsExecuted : Setting → List Event → Type 0
 ReadyIsExecuted s events = (m workers : ℕ) (seat : Seat) → slice_get (world_after s events).seats m ≡ Some seat → CanRun s seat
     → (n : ℕ) (h : Held) (x : Execution) → Has (member_in s seat).held h → ready_behind n (member_in s seat) h ≡ Some x
     → LineExecutes s events m workers x ⊎ IsKeptOutBehind n (member_in s seat) h x
 
--- in every run, with no premise
+-- `ReadyIsExecuted` at every moment of every run, with no premise
 abbrev pub ReadyIsAlwaysExecuted : Type 0
 ReadyIsAlwaysExecuted = (s : Setting) (events : List Event) → ReadyIsExecuted s events

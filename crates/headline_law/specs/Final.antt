@@ -23,7 +23,8 @@ pub record StandsIn (checkpoints : List Checkpoint) (epoch : ℕ) (tx effects : 
   pub item : Has checkpoint.items (record { tx = tx; effects = effects })
   pub only : (c : Checkpoint) → Has checkpoints c → c.epoch ≡ epoch → (i : Item) → Has c.items i → i.tx ≡ tx → i.effects ≡ effects
 
--- so it stands in what each member that has left the epoch has built, at any moment of the run; such a member is in a later epoch
+-- at any moment of the run, the transaction stands (`StandsIn`) in what each member that has left the epoch has built;
+-- such a member is in a later epoch
 abbrev pub StandsForGood : Setting → List Event → ℕ → Digest → Digest → Type 0
 StandsForGood s events epoch tx effects = (front back : List Event) → events ≡ front ++ back → (m : ℕ) (seat : Seat) → slice_get (world_after s front).seats m ≡ Some seat
     → epoch < (member_in s seat).epoch → StandsIn (built (member_in s seat)) epoch tx effects
@@ -34,7 +35,7 @@ abbrev pub FinalStands : Type 0
 FinalStands = (s : Setting) (events : List Event) → IsHonestRun s events → AreApart s.opening
     → (epoch : ℕ) (tx effects : Digest) (members : List ℕ) → IsFinal s (world_after s events) epoch tx effects members → StandsForGood s events epoch tx effects
 
--- so it is in every run of every schedule, whose set-up opens with objects of different ids
+-- `FinalStands` for every run of every schedule: its set-up always opens with objects of different ids
 abbrev pub FinalStandsInSchedules : Type 0
 FinalStandsInSchedules = (trust : Trust) (lines : List Setup) (events : List Event) → IsHonestRun (setting_of trust lines) events
     → (epoch : ℕ) (tx effects : Digest) (members : List ℕ) → IsFinal (setting_of trust lines) (world_after (setting_of trust lines) events) epoch tx effects members

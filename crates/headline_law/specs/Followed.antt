@@ -63,17 +63,17 @@ pub record IsInRun (s : Setting) (events : List Event) (m : Member) : Type 0 whe
   pub there : slice_get (world_after s front).seats place ≡ Some seat
   pub same : member_in s seat ≡ m
 
--- the checkpoints that it has built are applied, one after the other, by a follower that opened with the objects of the
--- set-up
+-- a follower that opened with the objects of the set-up applies the checkpoints that the member has built, one after
+-- the other
 abbrev pub IsFollowed : Setting → List Event → Member → Type 0
 IsFollowed s events m = (handed : List Handed) → AreHanded s events (built m) handed → AreApplied (opened s.opening) handed
 
--- so a follower that has applied those before refuses the next one only if it runs out of memory
+-- a follower that has applied the member's earlier checkpoints refuses the next one only if it runs out of memory
 abbrev pub OnlyMemoryIsWanting : Setting → List Event → Member → Type 0
 OnlyMemoryIsWanting s events m = (before : List Handed) (next : Handed) → AreHanded s events (built m) (before ++ next ∷ [])
     → (refusal : FollowRefusal) → Answers (behind_handed (opened s.opening) before) next.checkpoint next.txs (Err refusal) → is_memory refusal ≡ true
 
--- and all of them can be handed in: each item's transaction was made or read in the run
+-- all checkpoints of the member can be handed in: each item's transaction was made or read in the run
 abbrev pub CanBeFollowed : Setting → List Event → Member → Type 0
 CanBeFollowed s events m = (handed : List Handed) × AreHanded s events (built m) handed × (map checkpoint_in handed ≡ built m)
 
@@ -84,13 +84,14 @@ StandsAtOpenings s events m = (handed : List Handed) → AreHanded s events (bui
     → (c : Checkpoint) → last_of (map checkpoint_in handed) ≡ Some c → c.last ≡ true
     → values (behind_handed (opened s.opening) handed).course.map ≡ opening_at s (world_after s events).sequences (c.epoch + 1)
 
--- after the last checkpoint of an epoch that the one has built, they are those with which the other opened the next epoch
+-- after the last checkpoint of an epoch that member `a` has built, the follower's objects are those with which member
+-- `b` opened the next epoch
 abbrev pub IsOpenedAlike : Setting → List Event → Member → Member → Type 0
 IsOpenedAlike s events a b = (handed : List Handed) → AreHanded s events (built a) handed
     → (c : Checkpoint) → last_of (map checkpoint_in handed) ≡ Some c → c.last ≡ true → b.epoch ≡ c.epoch + 1
     → values (behind_handed (opened s.opening) handed).course.map ≡ b.opening
 
--- so it is of every member at every moment of the run, under the run assumptions
+-- under the run assumptions, the properties above hold of every member at every moment of the run
 abbrev pub HonestCheckpointsAreFollowed : Type 0
 HonestCheckpointsAreFollowed = (s : Setting) (events : List Event) → IsHonestRun s events → AreApart s.opening → (m : Member) → IsInRun s events m → IsFollowed s events m
 
@@ -103,11 +104,11 @@ HonestCheckpointsCanBeFollowed = (s : Setting) (events : List Event) → IsHones
 abbrev pub FollowersStandAtOpenings : Type 0
 FollowersStandAtOpenings = (s : Setting) (events : List Event) → IsHonestRun s events → AreApart s.opening → (m : Member) → IsInRun s events m → StandsAtOpenings s events m
 
--- and of any two members, at any two moments
+-- under the run assumptions, `IsOpenedAlike` holds of any two members, at any two moments of the run
 abbrev pub FollowersOpenAlike : Type 0
 FollowersOpenAlike = (s : Setting) (events : List Event) → IsHonestRun s events → AreApart s.opening → (a b : Member) → IsInRun s events a → IsInRun s events b → IsOpenedAlike s events a b
 
--- so it is in every run of every schedule, whose set-up opens with objects of different ids
+-- the same laws for every run of every schedule: its set-up always opens with objects of different ids
 abbrev pub FollowedInSchedules : Type 0
 FollowedInSchedules = (trust : Trust) (lines : List Setup) (events : List Event) → IsHonestRun (setting_of trust lines) events → (m : Member) → IsInRun (setting_of trust lines) events m → IsFollowed (setting_of trust lines) events m
 
@@ -130,18 +131,20 @@ OpenedAlikeInSchedules = (trust : Trust) (lines : List Setup) (events : List Eve
 abbrev pub AllMade : Setting → List Event → Type 0
 AllMade s events = (t : Transaction) → Has (all_transactions s events) t → made_as (world_after s events) (transaction_digest t) ≡ Some t
 
--- it takes all checkpoints of the epochs before a member's own, and has then the objects with which the member opened its epoch
+-- a follower that finds transactions among those that lines made takes all checkpoints of the epochs before the
+-- member's own, and has then the objects with which the member opened its epoch
 pub record ComesThrough (s : Setting) (events : List Event) (m : Member) : Type 0 where
   pub state : State
   pub is : caught_up (made_as (world_after s events)) (opened s.opening) (before_epoch m.epoch (built m)) ≡ Ok state
   pub objects : state.course.map ≡ map_of m.opening
 
--- so it does with each member, at the end of the run
+-- under the run assumptions, and if lines made all transactions, a follower comes through with each member at the end
+-- of the run
 abbrev pub FollowersComeThrough : Type 0
 FollowersComeThrough = (s : Setting) (events : List Event) → IsHonestRun s events → AreApart s.opening → AllMade s events
     → (m : ℕ) (seat : Seat) → slice_get (world_after s events).seats m ≡ Some seat → ComesThrough s events (member_in s seat)
 
--- and in every run of every schedule
+-- `FollowersComeThrough` for every run of every schedule
 abbrev pub ComeThroughInSchedules : Type 0
 ComeThroughInSchedules = (trust : Trust) (lines : List Setup) (events : List Event) → IsHonestRun (setting_of trust lines) events → AllMade (setting_of trust lines) events
     → (m : ℕ) (seat : Seat) → slice_get (world_after (setting_of trust lines) events).seats m ≡ Some seat → ComesThrough (setting_of trust lines) events (member_in (setting_of trust lines) seat)

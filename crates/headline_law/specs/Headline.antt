@@ -46,7 +46,7 @@ use Rattle.headline_law.specs.Executing.{ReadyIsExecuted}
 use Rattle.headline_law.specs.Final.{StandsForGood}
 use Rattle.headline_law.specs.Printed.{WasFinal, final_by}
 
--- what holds of the certified transactions
+-- what holds of the certified transactions of a run
 pub record AreSafe (s : Setting) (events : List Event) : Type 0 where
   -- two of one epoch that consume one version are the same transaction
   pub one_owner : (c d : Certificate) → IsCertified s events c → IsCertified s events d → c.tx.epoch ≡ d.tx.epoch
@@ -55,13 +55,14 @@ pub record AreSafe (s : Setting) (events : List Event) : Type 0 where
   pub signed : (c : Certificate) → IsCertified s events c
       → (m : ℕ) × (x : SignedTx) × (is_honest (world_after s events) m ≡ true) × Has (all_handed s events m) x × (x.tx ≡ c.tx) × (accepts_sender s.rules x.tx x.seal ≡ true)
 
--- what holds of a member
+-- what holds of a member at any moment
 pub record Stands (s : Setting) (w : World) (m : Member) : Type 0 where
   -- it opened its epoch with what one thread leaves after executing the checkpointed transactions of the epochs before, in order
   pub opens : OpensAsLeft s w.sequences m
   -- the checkpoints that it has built are the first of that thread: numbers, parents, transactions, effects
   pub builds : IsFront (built m) (past_at s w.sequences (suc m.epoch))
-  -- and in its epoch its effects are those of that thread whole, and not only their digests: of each first cuts whose checkpoints it has built
+  -- in its epoch, for the first cuts whose checkpoints it has built, its effects are those of that thread, whole and
+  -- not only by their digests
   pub effects : (cuts : List Cut) → IsFront cuts m.sequence.cuts → Each (IsBuilt m) cuts → AreOfThread s w.sequences m cuts
   -- it holds no two certificates that consume one version, so it is not halted
   pub runs_on : fork_of m ≡ None
@@ -69,11 +70,11 @@ pub record Stands (s : Setting) (w : World) (m : Member) : Type 0 where
   pub is_ready : (h : Held) (objects : List Object) → MayExecute m h objects → is_executed m.executed h.digest ≡ false → ready (books m) m.executed h ≡ Some (executes_as h (execution h.cert.tx objects))
   -- a run executes all that is ready before it or after some of its rounds
   pub takes : (ran : Ran) → run_answer s.rules m ≡ Ok ran → (n : ℕ) (h : Held) (x : Execution) → Has m.held h → ready_behind n m h ≡ Some x → is_executed (with_rounds m).executed h.digest ≡ true
-  -- and all that was admitted
+  -- a run executes all that was admitted
   pub executes : (ran : Ran) → run_answer s.rules m ≡ Ok ran → (a : Admitted) → Has m.sequence.admission.admitted a → is_executed (with_rounds m).executed a.digest ≡ true
-  -- it leaves nothing that waits for nothing
+  -- a run leaves no certificate that waits for nothing
   pub leaves : (ran : Ran) → run_answer s.rules m ≡ Ok ran → ran.left ≡ []
-  -- and after it no turn waits for a transaction
+  -- after a run no turn waits for a transaction
   pub moves_on : (ran : Ran) → run_answer s.rules m ≡ Ok ran → (tx : Digest) → turn_answer s.rules (with_rounds m) ≡ Err (no_turn.Waits tx) → ⊥
   -- of the currency of gas, all that went in an epoch that it left is the gas of the checkpointed transactions
   pub gas : (epoch : ℕ) → epoch < m.epoch
@@ -81,7 +82,7 @@ pub record Stands (s : Setting) (w : World) (m : Member) : Type 0 where
   -- of each other currency its opening objects hold as much as their caps say
   pub backed : (currency : ℕ) → currency ≢ 0 → currency_sum m.opening currency ≡ supply_sum m.opening currency
 
--- what holds of two members
+-- what holds of two members at one moment
 pub record Agree (a b : Member) : Type 0 where
   -- in one epoch they opened it with equal objects
   pub openings : a.epoch ≡ b.epoch → a.opening ≡ b.opening
@@ -90,7 +91,7 @@ pub record Agree (a b : Member) : Type 0 where
   -- of what they have built, in whatever epochs, the one is a prefix of the other
   pub checkpoints : IsFront (built a) (built b) ⊎ IsFront (built b) (built a)
 
--- the moment after these events
+-- what holds under the run assumptions at the moment after these events
 pub record Holds (s : Setting) (events : List Event) : Type 0 where
   pub certified : AreSafe s events
   pub member : (m : ℕ) (seat : Seat) → slice_get (world_after s events).seats m ≡ Some seat → Stands s (world_after s events) (member_in s seat)
@@ -98,7 +99,7 @@ pub record Holds (s : Setting) (events : List Event) : Type 0 where
       → Agree (member_in s a) (member_in s b)
   -- what a quorum acknowledged stands, with these effects, in a checkpoint of its epoch at each member that has left it
   pub final : (epoch : ℕ) (tx effects : Digest) (members : List ℕ) → IsFinal s (world_after s events) epoch tx effects members → StandsForGood s events epoch tx effects
-  -- and so does each transaction of which the report says that it is final
+  -- each transaction of which the report says that it is final stands for good too
   pub reported : (name : Name) (members : List ℕ) → Has (report s events) (final_by name members) → WasFinal s events name members
   -- no line of the report says that a member met two certificates that consume one version, that a run left something, or
   -- that a record is bad
@@ -112,14 +113,16 @@ VotesOnce s events = (m : ℕ) (seat : Seat) → slice_get (world_after s events
     → t.epoch ≡ u.epoch → (transaction_digest t ≡ transaction_digest u → ⊥)
     → (key : ObjectKey) → Has (consumed_keys t) key → Has (consumed_keys u) key → ⊥
 
--- the moment after these events: the first two with no premise, the third under the run assumptions
+-- the promise for the moment after these events: the first two parts with no premise, the third under the run
+-- assumptions
 pub record IsPromised (s : Setting) (events : List Event) : Type 0 where
   pub votes : VotesOnce s events
   -- a `run` line that could come now executes what is ready, at each member that can run
   pub completes : ReadyIsExecuted s events
   pub holds : IsHonestRun s events → Holds s events
 
--- whatever text is read as a schedule, and whatever seals are accepted: each moment of its run
+-- the headline: the promise holds at each moment of the run of each text that is a schedule, whatever seals are
+-- accepted
 abbrev pub EveryMomentHolds : Type 0
 EveryMomentHolds = (text : List ℕ) (t : Schedule) → schedule_of text ≡ Ok t → (trust : Trust) → (front back : List Event) → t.events ≡ front ++ back
     → IsPromised (setting_of trust t.setup) front

@@ -1,4 +1,4 @@
--- Amounts over the epochs.
+-- The money of objects is an amount (below 2 ^ 64) in every epoch, if it is in the set-up.
 use Rattle.std.specs.Prelude.{◌≡◌, ℕ, List, slice_get, Some}
 use Rattle.std.specs.FinMap.{values}
 use Rattle.chain_types.specs.declared.objects.Object.{Object}
@@ -20,11 +20,11 @@ use Rattle.headline_law.specs.Amounts.{HoldsAmount}
 abbrev pub ThreadsKeepAmounts : Type 0
 ThreadsKeepAmounts = (opening : List Object) (txs : List Transaction) → Each HoldsAmount opening → Each HoldsAmount (values (fold_all (map_of opening) txs).map)
 
--- so every epoch opens with amounts, whatever the sequences are
+-- every epoch opens with amounts if the set-up does, whatever the sequences are
 abbrev pub OpeningsHoldAmounts : Type 0
 OpeningsHoldAmounts = (s : Setting) → Each HoldsAmount s.opening → (sequences : List (List Entry)) (epoch : ℕ) → Each HoldsAmount (opening_at s sequences epoch)
 
--- and in every run under the run assumptions, each gas coin that paid in an epoch before held an amount
+-- under the run assumptions, each gas coin that paid in an epoch that a member has left held an amount
 abbrev pub GasWasHeld : Type 0
 GasWasHeld = (s : Setting) (events : List Event) → IsHonestRun s events → AreApart s.opening → Each HoldsAmount s.opening
     → (m : ℕ) (seat : Seat) → slice_get (world_after s events).seats m ≡ Some seat → GasHeldBefore s (world_after s events).sequences (member_in s seat).epoch

@@ -1,4 +1,4 @@
--- What a certificate wants is there.
+-- The owned and immutable inputs of a held certificate are there once their origins were executed, and they fit.
 use Rattle.std.specs.Prelude.{◌≡◌, ℕ, true, false, List, slice_get, Option, Some, is_some}
 use Rattle.digest_core.specs.declared.Digest.{Digest}
 use Rattle.chain_types.specs.declared.objects.Object.{Object}
@@ -27,7 +27,8 @@ IsPresent m (inputs.Owned r) origin = is_some (found (versions m.opening m.execu
 IsPresent m (inputs.Immutable r) origin = is_some (found (versions m.opening m.executed) (wanted_version (key_of r) origin)) ≡ true
 IsPresent m (inputs.Shared id initial mutable) origin = Unit {0}
 
--- it is at each member that holds the certificate and executed the origin, under the run assumptions
+-- under the run assumptions, each owned or immutable input is present at each member that holds the certificate and
+-- executed the input's origin
 abbrev pub OwnedInputsArePresent : Type 0
 OwnedInputsArePresent = (s : Setting) (events : List Event) → IsHonestRun s events → AreApart s.opening
     → (m : ℕ) (seat : Seat) → slice_get (world_after s events).seats m ≡ Some seat
@@ -41,14 +42,15 @@ FitsAsNamed m t (inputs.Owned r) origin = (o : Object) → found (versions m.ope
 FitsAsNamed m t (inputs.Immutable r) origin = (o : Object) → found (versions m.opening m.executed) (wanted_version (key_of r) origin) ≡ Some o → fits_input t (inputs.Immutable r) o ≡ true
 FitsAsNamed m t (inputs.Shared id initial mutable) origin = Unit {0}
 
--- it is at each member that holds the certificate, under the run assumptions
+-- under the run assumptions, what is found for each owned or immutable input fits it, at each member that holds the
+-- certificate
 abbrev pub OwnedInputsFit : Type 0
 OwnedInputsFit = (s : Setting) (events : List Event) → IsHonestRun s events → AreApart s.opening
     → (m : ℕ) (seat : Seat) → slice_get (world_after s events).seats m ≡ Some seat
     → (h : Held) → Has (member_in s seat).held h → (i : Input) (origin : Option Digest) → Has (joined_inputs h.cert) (i, origin)
     → FitsAsNamed (member_in s seat) h.cert.tx i origin
 
--- so if all that a certificate without shared inputs wants is there, it fits the transaction
+-- under the run assumptions, if all inputs of a certificate without shared inputs are there, they fit the transaction
 abbrev pub CertificatesFit : Type 0
 CertificatesFit = (s : Setting) (events : List Event) → IsHonestRun s events → AreApart s.opening
     → (m : ℕ) (seat : Seat) → slice_get (world_after s events).seats m ≡ Some seat

@@ -31,7 +31,8 @@ pub record IsFinalHere (s : Setting) (w : World) (name : Name) (members : List �
   pub effects : Digest
   pub final : IsFinal s w made.signed.tx.epoch made.digest effects members
 
--- so it is in whatever world a `final` line of a schedule says it, if its members ascend and are known
+-- in whatever world a `final` line says `final by`, the transaction is final by these members, if they ascend and are
+-- known
 abbrev pub PrintedIsFinal : Type 0
 PrintedIsFinal = (s : Setting) (w : World) (name : Name) (asked members : List ℕ) → is_roll s.rules.stakes members ≡ true
     → Has (lines_of s w (event.Final name asked)) (final_by name members) → IsFinalHere s w name members
@@ -44,12 +45,12 @@ pub record WasFinal (s : Setting) (events : List Event) (name : Name) (members :
   pub here : IsFinalHere s (world_after s front) name members
   pub stands : StandsForGood s events here.made.signed.tx.epoch here.made.digest here.effects
 
--- so it is with each such line of the report of an honest run
+-- under the run assumptions, each `final by` line of the report whose members ascend and are known holds for good
 abbrev pub ReportedStands : Type 0
 ReportedStands = (s : Setting) (events : List Event) → IsHonestRun s events → AreApart s.opening
     → (name : Name) (members : List ℕ) → is_roll s.rules.stakes members ≡ true → Has (report s events) (final_by name members) → WasFinal s events name members
 
--- and in the report of a schedule that a text says, whose lines name members that ascend and are known
+-- the same for the report of a schedule that a text says: its lines always name members that ascend and are known
 abbrev pub ReadReportsHold : Type 0
 ReadReportsHold = (text : List ℕ) (t : Schedule) → schedule_of text ≡ Ok t → (trust : Trust) → IsHonestRun (setting_of trust t.setup) t.events
     → (name : Name) (members : List ℕ) → Has (report_of trust t) (final_by name members) → WasFinal (setting_of trust t.setup) t.events name members

@@ -13,11 +13,11 @@ use Rattle.block_law.specs.Money.{cap_count, supply_sum}
 use Rattle.safety_law.specs.Sums.{epoch_gas}
 use Rattle.headline_law.specs.Amounts.{IsAmount}
 
--- the objects of its set-up are amounts, values too
+-- all numbers in the set-up objects of a schedule that a text says are amounts
 abbrev pub ReadSetUpsAreAmounts : Type 0
 ReadSetUpsAreAmounts = (text : List ℕ) (t : Schedule) → schedule_of text ≡ Ok t → (trust : Trust) → Each IsAmount (setting_of trust t.setup).opening
 
--- its lines make no cap of the currency of gas
+-- the set-up of a schedule that a text says has no cap of the currency of gas
 abbrev pub ReadSetUpsHaveNoGasCap : Type 0
 ReadSetUpsHaveNoGasCap = (text : List ℕ) (t : Schedule) → schedule_of text ≡ Ok t → (trust : Trust) → cap_count (setting_of trust t.setup).opening 0 ≡ 0
 

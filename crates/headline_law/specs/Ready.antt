@@ -1,4 +1,5 @@
--- What held certificates want is there, if its makers were executed, and it fits them.
+-- All inputs that a held certificate wants, shared ones included, are there once their makers were executed, and they
+-- fit.
 use Rattle.std.specs.Prelude.{◌≡◌, ℕ, true, List, slice_get, Option, Some, is_some}
 use Rattle.digest_core.specs.declared.Digest.{Digest}
 use Rattle.chain_types.specs.declared.objects.Object.{Object}

@@ -25,11 +25,12 @@ use Rattle.safety_law.specs.Checkpointed.{IsBuilt}
 abbrev pub IsRunOut : Books → List Execution → Type 0
 IsRunOut b executed = (h : Held) → Has b.held h → ready b executed h ≡ None
 
--- so it is after the rounds of a run, whatever is held and was executed
+-- after the rounds of a run no held certificate is ready, whatever is held and was executed
 abbrev pub NothingIsReadyBehindARun : Type 0
 NothingIsReadyBehindARun = (b : Books) (executed : List Execution) → IsRunOut b (executed ++ rounds b executed)
 
--- of those held before this certificate the round after these executions takes one that writes a key that it writes
+-- the certificate is kept out of the round after these executions: that round takes an earlier held certificate that
+-- writes one of its keys
 pub record IsKeptOut (b : Books) (executed : List Execution) (h : Held) (x : Execution) : Type 0 where
   pub front : List Held
   pub back : List Held
@@ -41,7 +42,7 @@ abbrev pub RoundsTakeReady : Books → List Execution → Type 0
 RoundsTakeReady b executed = (n : ℕ) (h : Held) (x : Execution) → Has b.held h → ready b (executed ++ rounds_within n b executed) h ≡ Some x
     → Has (rounds b executed) x ⊎ IsKeptOut b (executed ++ rounds_within n b executed) h x
 
--- so it is whatever is held and was executed
+-- `RoundsTakeReady` for whatever is held and was executed
 abbrev pub WhatIsReadyIsExecuted : Type 0
 WhatIsReadyIsExecuted = (b : Books) (executed : List Execution) → RoundsTakeReady b executed
 
@@ -56,7 +57,7 @@ pub record RunsAs (r : Rules) (m : Member) (x : Execution) : Type 0 where
 abbrev pub ready_behind : ℕ → Member → Held → Option Execution
 ready_behind n m h = ready (books m) (m.executed ++ rounds_within n (books m) m.executed) h
 
--- and what keeps it out of the round that comes then
+-- the certificate is kept out of the round that comes after this many rounds of the member's next run
 abbrev pub IsKeptOutBehind : ℕ → Member → Held → Execution → Type 0
 IsKeptOutBehind n m h x = IsKeptOut (books m) (m.executed ++ rounds_within n (books m) m.executed) h x
 
@@ -66,11 +67,12 @@ abbrev pub CompletesRuns : Rules → Member → Type 0
 CompletesRuns r m = fork_of m ≡ None → nat_le record_limit m.records ≡ false
     → (n : ℕ) (h : Held) (x : Execution) → Has m.held h → ready_behind n m h ≡ Some x → RunsAs r m x ⊎ IsKeptOutBehind n m h x
 
--- whatever the member is
+-- every member completes its runs in this sense
 abbrev pub RunsAreComplete : Type 0
 RunsAreComplete = (r : Rules) (m : Member) → CompletesRuns r m
 
--- under the run assumptions nothing is kept out
+-- under the run assumptions nothing is kept out: a run executes all that is ready before it or after some of its
+-- rounds
 abbrev pub RunsExecuteReady : Type 0
 RunsExecuteReady = (s : Setting) (events : List Event) → IsHonestRun s events → AreApart s.opening
     → (m : ℕ) (seat : Seat) → slice_get (world_after s events).seats m ≡ Some seat
@@ -78,13 +80,13 @@ RunsExecuteReady = (s : Setting) (events : List Event) → IsHonestRun s events 
     → (n : ℕ) (h : Held) (x : Execution) → Has (member_in s seat).held h → ready_behind n (member_in s seat) h ≡ Some x
     → is_executed (with_rounds (member_in s seat)).executed h.digest ≡ true
 
--- a member has nothing left if nothing is ready
+-- under the run assumptions, a member at which nothing is ready has nothing left to report
 abbrev pub NothingIsLeft : Type 0
 NothingIsLeft = (s : Setting) (events : List Event) → IsHonestRun s events → AreApart s.opening
     → (m : ℕ) (seat : Seat) → slice_get (world_after s events).seats m ≡ Some seat
     → IsRunOut (books (member_in s seat)) (member_in s seat).executed → left (books (member_in s seat)) (member_in s seat).executed ≡ []
 
--- so no run leaves anything, at any member and moment
+-- under the run assumptions no run leaves anything, at any member and moment
 abbrev pub NoRunLeavesAnything : Type 0
 NoRunLeavesAnything = (s : Setting) (events : List Event) → IsHonestRun s events → AreApart s.opening
     → (m : ℕ) (seat : Seat) → slice_get (world_after s events).seats m ≡ Some seat
@@ -96,28 +98,28 @@ pub record HasNothingToWaitFor (m : Member) (h : Held) : Type 0 where
   pub origins : list_all (is_origin_done m.executed) h.cert.origins ≡ true
   pub writers : list_all (λ (w : Wanted). is_maker_done m.executed w.producer) (wants_of m.sequence.admission h) ≡ true
 
--- and a run executes each held certificate that waits for nothing after it
+-- under the run assumptions a run executes each held certificate that has nothing to wait for after it
 abbrev pub RunsExecuteAll : Type 0
 RunsExecuteAll = (s : Setting) (events : List Event) → IsHonestRun s events → AreApart s.opening
     → (m : ℕ) (seat : Seat) → slice_get (world_after s events).seats m ≡ Some seat
     → (ran : Ran) → run_answer s.rules (member_in s seat) ≡ Ok ran
     → (h : Held) → Has (member_in s seat).held h → HasNothingToWaitFor (with_rounds (member_in s seat)) h → is_executed (with_rounds (member_in s seat)).executed h.digest ≡ true
 
--- so it executes all that the member admitted
+-- under the run assumptions a run executes all that the member admitted
 abbrev pub RunsExecuteAdmitted : Type 0
 RunsExecuteAdmitted = (s : Setting) (events : List Event) → IsHonestRun s events → AreApart s.opening
     → (m : ℕ) (seat : Seat) → slice_get (world_after s events).seats m ≡ Some seat
     → (ran : Ran) → run_answer s.rules (member_in s seat) ≡ Ok ran
     → (a : Admitted) → Has (member_in s seat).sequence.admission.admitted a → is_executed (with_rounds (member_in s seat)).executed a.digest ≡ true
 
--- and builds the checkpoint of every cut that the member has seen
+-- under the run assumptions a run builds the checkpoint of every cut that the member has seen
 abbrev pub RunsBuildAll : Type 0
 RunsBuildAll = (s : Setting) (events : List Event) → IsHonestRun s events → AreApart s.opening
     → (m : ℕ) (seat : Seat) → slice_get (world_after s events).seats m ≡ Some seat
     → (ran : Ran) → run_answer s.rules (member_in s seat) ≡ Ok ran
     → Each (IsBuilt (with_rounds (member_in s seat))) (member_in s seat).sequence.cuts
 
--- and no turn is refused after it for a certificate that waits
+-- under the run assumptions no turn after a run is refused for a certificate that waits
 abbrev pub NoTurnWaitsBehindARun : Type 0
 NoTurnWaitsBehindARun = (s : Setting) (events : List Event) → IsHonestRun s events → AreApart s.opening
     → (m : ℕ) (seat : Seat) → slice_get (world_after s events).seats m ≡ Some seat

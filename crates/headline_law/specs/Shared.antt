@@ -16,7 +16,8 @@ abbrev pub ShareAlike : Member → Member → Type 0
 ShareAlike a b = (u v : Version) → Has (versions a.opening a.executed) u → Has (versions b.opening b.executed) v → u.object.id ≡ v.object.id
     → shared_since u.object.owner ≡ shared_since v.object.owner
 
--- so it is with two members of one epoch, at any two moments of the run, the first of which may be the second
+-- under the run assumptions two members of one epoch share alike, at any two moments of the run, the first of which
+-- may be the second
 abbrev pub VersionsAreSharedAlike : Type 0
 VersionsAreSharedAlike = (s : Setting) (front back : List Event) → IsHonestRun s (front ++ back) → AreApart s.opening
     → (m n : ℕ) (a b : Seat) → slice_get (world_after s front).seats m ≡ Some a → slice_get (world_after s (front ++ back)).seats n ≡ Some b

@@ -29,7 +29,7 @@ pub record WasOnce (s : Setting) (records : List Record) (P : Member → Type 0)
 abbrev pub MakesStatement : Setting → Statement → Member → Type 0
 MakesStatement s st m = (call : Call) × Has (stated s.rules m call) st
 
--- each statement of an honest member was made in a state in which it was
+-- each statement of an honest member was made by a call in a state in which the member once was
 abbrev pub EveryStatementWasMade : Type 0
 EveryStatementWasMade = (s : Setting) (events : List Event) (m : ℕ) (seat : Seat) → slice_get (world_after s events).seats m ≡ Some seat → seat.honest ≡ true
     → (st : Statement) → HasSaid (world_after s events) m st → WasOnce s seat.records (MakesStatement s st)
@@ -42,7 +42,7 @@ pub record HasExecuted (epoch : ℕ) (tx effects : Digest) (m : Member) : Type 0
   pub named : of.digest ≡ tx
   pub gave : digest_of_effects of.gave.effects ≡ effects
 
--- so it had when it acknowledged them
+-- an honest member that acknowledged effects had executed the transaction with them, in that epoch
 abbrev pub EveryAckWasExecuted : Type 0
 EveryAckWasExecuted = (s : Setting) (events : List Event) (m : ℕ) (seat : Seat) → slice_get (world_after s events).seats m ≡ Some seat → seat.honest ≡ true
     → (epoch : ℕ) (tx effects : Digest) → HasSaid (world_after s events) m (statement.Ack epoch tx effects) → WasOnce s seat.records (HasExecuted epoch tx effects)
@@ -53,7 +53,7 @@ pub record IsSettled (epoch : ℕ) (m : Member) : Type 0 where
   pub closed : m.closed ≡ true
   pub known : (h : Held) → Has m.held h → is_known m.sequence.admission h.digest ≡ true
 
--- so it was when it stated that the epoch is to end
+-- an honest member that stated the End of an epoch was settled in it
 abbrev pub EveryEndWasSettled : Type 0
 EveryEndWasSettled = (s : Setting) (events : List Event) (m : ℕ) (seat : Seat) → slice_get (world_after s events).seats m ≡ Some seat → seat.honest ≡ true
     → (epoch : ℕ) → HasSaid (world_after s events) m (statement.End epoch) → WasOnce s seat.records (IsSettled epoch)

@@ -7,13 +7,13 @@ pub fn certified_is_built()
     ensures { CertifiedIsBuilt }
 {}
 
-/// So under the run assumptions a certified chain never differs from what a member has built: at each place at which
+/// Under the run assumptions a certified chain never differs from what a member has built: at each place at which
 /// both have a checkpoint, it is the same.
 pub fn certified_agrees()
     ensures { CertifiedAgrees }
 {}
 
-/// And so it is in every run of every schedule.
+/// [`certified_agrees`] for every run of every schedule.
 pub fn certified_agrees_in_schedules()
     ensures { CertifiedAgreesInSchedules }
 {}

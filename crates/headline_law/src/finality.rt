@@ -8,12 +8,13 @@ pub fn final_stands()
     ensures { FinalStands }
 {}
 
-/// So it is in every run of every schedule.
+/// [`final_stands`] for every run of every schedule.
 pub fn final_stands_in_schedules()
     ensures { FinalStandsInSchedules }
 {}
 
-/// Before that too: every member that has executed it in that epoch has it with these effects.
+/// Every member that has executed a transaction whose effects a quorum acknowledged has it with these effects, in that
+/// epoch already.
 pub fn final_is_agreed()
     ensures { FinalIsAgreed }
 {}

@@ -10,21 +10,21 @@ pub fn honest_checkpoints_are_followed()
     ensures known { HonestCheckpointsCanBeFollowed }
 {}
 
-/// And so it is in every run of every schedule.
+/// [`honest_checkpoints_are_followed`] for every run of every schedule.
 pub fn honest_checkpoints_are_followed_in_schedules()
     ensures applied { FollowedInSchedules }
     ensures memory { OnlyMemoryInSchedules }
     ensures known { CanBeFollowedInSchedules }
 {}
 
-/// After the last checkpoint of an epoch its live objects, by ascending id, are those with which the next epoch opens, and
-/// so those with which every member opened it.
+/// After the last checkpoint of an epoch the follower's live objects, by ascending id, are those with which the next
+/// epoch opens, and so those with which every member opened it.
 pub fn followers_open_alike()
     ensures stands { FollowersStandAtOpenings }
     ensures alike { FollowersOpenAlike }
 {}
 
-/// And so it is in every run of every schedule.
+/// [`followers_open_alike`] for every run of every schedule.
 pub fn followers_open_alike_in_schedules()
     ensures stands { StandInSchedules }
     ensures alike { OpenedAlikeInSchedules }
@@ -43,7 +43,7 @@ pub fn followers_come_through()
     ensures { FollowersComeThrough }
 {}
 
-/// And so it is in every run of every schedule.
+/// [`followers_come_through`] for every run of every schedule.
 pub fn followers_come_through_in_schedules()
     ensures { ComeThroughInSchedules }
 {}

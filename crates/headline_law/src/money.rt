@@ -10,7 +10,8 @@ pub fn money_stays_amounts()
     ensures { MoneyStaysAmounts }
 {}
 
-/// If the values of counters and limits are amounts too, and its pure inputs are bytes, so are those that it writes.
+/// If all numbers in the objects that a transaction reads are amounts, and its pure inputs are bytes, so are all
+/// numbers in what it writes.
 pub fn amounts_stay_amounts()
     ensures { AmountsStayAmounts }
 {}
@@ -20,12 +21,12 @@ pub fn threads_keep_amounts()
     ensures { ThreadsKeepAmounts }
 {}
 
-/// So every epoch opens with such objects, whatever the world's sequences are.
+/// If the set-up's balances and supplies are amounts, every epoch opens with such, whatever the world's sequences are.
 pub fn openings_hold_amounts()
     ensures { OpeningsHoldAmounts }
 {}
 
-/// So in every run under the run assumptions each gas coin that paid in an epoch that a member has left held an amount.
+/// Under the run assumptions each gas coin that paid in an epoch that a member has left held an amount.
 pub fn gas_was_held()
     ensures { GasWasHeld }
 {}
@@ -35,18 +36,19 @@ pub fn read_set_ups_are_amounts()
     ensures { ReadSetUpsAreAmounts }
 {}
 
-/// It has no cap of the currency of gas.
+/// The set-up of every schedule that a text says has no cap of the currency of gas.
 pub fn read_set_ups_have_no_gas_cap()
     ensures { ReadSetUpsHaveNoGasCap }
 {}
 
-/// So in its run, in each epoch that a member has left, all that went of the currency of gas is the gas of the
-/// checkpointed transactions.
+/// In the run of every schedule that a text says, under the run assumptions: in each epoch that a member has left, all
+/// that went of the currency of gas is the gas of the checkpointed transactions.
 pub fn read_gas_alone_leaves()
     ensures { ReadGasAloneLeaves }
 {}
 
-/// And of each other currency the opening objects of every member hold as much as their caps say.
+/// In the run of every schedule that a text says, under the run assumptions: of each currency other than gas the
+/// opening objects of every member hold as much as their caps say.
 pub fn read_currencies_are_backed()
     ensures { ReadCurrenciesAreBacked }
 {}

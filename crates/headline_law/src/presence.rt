@@ -15,13 +15,13 @@ pub fn owned_inputs_are_present()
     ensures { OwnedInputsArePresent }
 {}
 
-/// And the version that is found for it is what the input says: its id, version and digest, and its owner is the sender,
-/// or it is immutable.
+/// Under the run assumptions, the version that is found for an owned or immutable input of a held certificate is what
+/// the input says: it has the id, version and digest, and is the sender's, or immutable.
 pub fn owned_inputs_fit()
     ensures { OwnedInputsFit }
 {}
 
-/// So a held certificate without shared inputs, all of whose inputs are present, fits its transaction: it is not unfit.
+/// Under the run assumptions, a held certificate without shared inputs, all of whose inputs are present, is not unfit.
 pub fn certificates_fit()
     ensures { CertificatesFit }
 {}

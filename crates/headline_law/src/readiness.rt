@@ -34,7 +34,8 @@ pub fn writes_new_keys()
     ensures { WritesNewKeys }
 {}
 
-/// So it is ready: a certified transaction waits for its inputs and its place in the sequence, and for nothing else.
+/// Such a certificate is ready: a certified transaction waits for its inputs and its place in the sequence, and for
+/// nothing else.
 pub fn present_is_ready()
     ensures { PresentIsReady }
 {}
@@ -51,12 +52,13 @@ pub fn nothing_clashes()
     ensures { NothingClashes }
 {}
 
-/// What is ready is executed by the next round.
+/// The next round executes each certificate that is ready.
 pub fn next_round_takes_all()
     ensures { NextRoundTakesAll }
 {}
 
-/// So is what is due: a transaction is executed one round after the last of those that it comes from.
+/// The next round executes each certificate that is due: a transaction is executed one round after the last of those
+/// that it comes from.
 pub fn next_round_takes_due()
     ensures { NextRoundTakesDue }
 {}
@@ -72,8 +74,8 @@ pub fn what_is_ready_is_executed()
     ensures { WhatIsReadyIsExecuted }
 {}
 
-/// So a member that is not halted, and has room for a record, answers a run with all that is ready then or after some of
-/// its rounds, and has executed it: with no assumption on the run of the world.
+/// A member that is not halted, and has room for a record, answers a run with all that is ready then or after some of
+/// its rounds (but for what is kept out as above), and has executed it: with no assumption on the run of the world.
 pub fn runs_are_complete()
     ensures { RunsAreComplete }
 {}
@@ -89,8 +91,8 @@ pub fn nothing_is_left()
     ensures { NothingIsLeft }
 {}
 
-/// So no run leaves anything, at any member and moment: no answer of a run says that a version is absent, or that a
-/// certificate is unfit.
+/// Under the run assumptions no run leaves anything, at any member and moment: no answer of a run says that a version
+/// is absent, or that a certificate is unfit.
 pub fn no_run_leaves_anything()
     ensures { NoRunLeavesAnything }
 {}
@@ -107,7 +109,7 @@ pub fn runs_execute_admitted()
     ensures { RunsExecuteAdmitted }
 {}
 
-/// And it builds the checkpoint of every cut that the member has seen.
+/// A run builds the checkpoint of every cut that the member has seen.
 pub fn runs_build_all()
     ensures { RunsBuildAll }
 {}

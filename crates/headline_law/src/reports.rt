@@ -9,12 +9,13 @@ pub fn printed_is_final()
     ensures { PrintedIsFinal }
 {}
 
-/// So under the run assumptions each such line of the report holds for good.
+/// Under the run assumptions each `final by` line of the report holds for good, if its members ascend and are known.
 pub fn reported_stands()
     ensures { ReportedStands }
 {}
 
-/// And so does each such line of the report of a schedule that a text says, whatever its members are.
+/// Under the run assumptions each `final by` line of the report of a schedule that a text says holds for good,
+/// whatever its members are.
 pub fn read_reports_hold()
     ensures { ReadReportsHold }
 {}

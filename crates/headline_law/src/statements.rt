@@ -16,8 +16,8 @@ pub fn every_end_was_settled()
     ensures { EveryEndWasSettled }
 {}
 
-/// Under the run assumptions, all that such a member has executed it has admitted: so nothing that it executed is lost
-/// when the epoch ends.
+/// Under the run assumptions, all that a member in such a state has executed it has admitted: so nothing that it
+/// executed is lost when the epoch ends.
 pub fn executed_is_admitted()
     ensures { ExecutedIsAdmitted }
 {}

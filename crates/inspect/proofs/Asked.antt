@@ -48,12 +48,12 @@ state_same s n (seat ∷ seats) zero = go seat.honest seat.up
     go true true = refl
 state_same s n (seat ∷ seats) (suc m) = state_same s (suc n) seats m
 
--- and whether each is honest
+-- the flags of the members as the code sees them are those of the world
 flags_same : (s : Setting) (n : ℕ) (seats : List worlds.Seat) → honest_flags (posts_from s n seats) ≡ map seat_honest seats
 flags_same s n [] = refl
 flags_same s n (seat ∷ seats) = ap (λ (flags : List Bool). seat.honest ∷ flags) (flags_same s (suc n) seats)
 
--- and so is all that the questions look at
+-- all that the questions look at is the same for the code's scene and the definition's world
 sight_same : (s : Setting) (w : World) (sc : Scene) (events : List Event) (lines : ℕ) → Shows program_trust s w sc → sight_in sc events lines ≡ sight_of s w events lines
 sight_same s w sc events lines shows = ap (λ (x : Scene). sight_in x events lines) shows.scene ∙ (λ i. record {
   states = λ m. state_same s 0 w.seats m i;

@@ -37,7 +37,7 @@ found_more stakes certs spelled c found sound apart =
           ∙ sym (any_last (λ x. bytes_eq (messages.certificate.spell d) (messages.certificate.spell x)) certs c);
     })
 
--- likewise for lists that are equal to these
+-- a sound certificate that is not there is added: the new lists are given up to equality
 pub found_pushed : (stakes : List ℕ) (certs certs' : List Certificate) (spelled spelled' : Named (Unit {0})) (c copy : Certificate) (bytes again : List ℕ) → AreFound stakes certs spelled → IsSound stakes c
     → copy ≡ c → bytes ≡ messages.certificate.spell c → again ≡ messages.certificate.spell c → false ≡ is_some (named spelled bytes) → spelled' ≡ with_name spelled again tt
     → certs' ≡ certs ++ copy ∷ [] → AreFound stakes certs' spelled'

@@ -1,7 +1,8 @@
 -- Statuses apart.
 use Rattle.std.proofs.Common.{◌≡◌, ◌⊎◌, inl, inr, ℕ, arith}
 
--- those of a world that is there, of a text that is refused, and of a text
+-- sets of statuses: of an answer about a world, of a text, of an answer that was written, of a fault, and of a run
+-- that broke off
 abbrev pub OfWorld : ℕ → Type 0
 OfWorld n = (n ≡ 0) ⊎ (n ≡ 5) ⊎ (n ≡ 7) ⊎ (n ≡ 8)
 

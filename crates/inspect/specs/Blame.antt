@@ -26,11 +26,11 @@ abbrev pub blame_line : Name → Name → List ℕ → ℕ → ℕ → List ℕ
 blame_line one other members stake total =
     codes "blame " ++ one ++ codes " " ++ other ++ codes ": members" ++ members_text members ++ codes " stake " ++ decimal stake ++ codes " of " ++ decimal total ++ 10 ∷ []
 
--- how the transactions of certificates are called
+-- the name of each transaction, by its digest
 abbrev pub Names : Type 0
 Names = Digest → Name
 
--- the members whose seals stand under both, and their stake
+-- the line of two certificates with members to blame; nothing if there are none
 abbrev pub double_text : Names → List ℕ → Certificate → Certificate → Option DoubleVote → List ℕ
 double_text names stakes c d None = []
 double_text names stakes c d (Some b) = blame_line (names (transaction_digest c.tx)) (names (transaction_digest d.tx)) b.members (weight stakes b.members) (total_of stakes)
@@ -41,7 +41,8 @@ pair_text names stakes c d = double_text names stakes c d (blamed c d)
 abbrev pub pairs_text : Names → List ℕ → List Certificate → List ℕ
 pairs_text names stakes cs = of_pairs (pair_text names stakes) cs
 
--- what `blame` says of a run of these rules, in which transactions are called so, lines formed these certificates, and these lines stand
+-- the answer of `blame` for a run: `names` are the transactions' names, `formed` the certificates that `cert` lines
+-- formed, and `events` the lines that ran
 pub record SaysBlame (r : Rules) (names : Names) (formed : List Certificate) (events : List Event) (status : ℕ) (text : List ℕ) : Type 0 where
   pub done : status ≡ 0
   pub is : text ≡ pairs_text names r.stakes (certified r formed events)

@@ -19,7 +19,7 @@ raw_held mv = None
 abbrev pub held_bytes : Event → Option (List ℕ)
 held_bytes e = raw_held (move_of e)
 
--- the certificate that they encode, if they encode one
+-- the certificate that these bytes encode, as a list of one or none
 abbrev pub spelled_by : Option (List ℕ) → List Certificate
 spelled_by None = []
 spelled_by (Some bytes) = read_list (read_certificate bytes)
@@ -34,19 +34,20 @@ is_valid r c = not (is_some (cert_refusal r c))
 abbrev pub is_there : List Certificate → Certificate → Bool
 is_there found c = list_any (λ d. bytes_eq (messages.certificate.spell c) (messages.certificate.spell d)) found
 
--- one more, unless an equal one is there
+-- the certificates with this one at the end, unless an equal one is there
 abbrev pub with_new : List Certificate → Certificate → List Certificate
 with_new found c = if is_there found c then found else found ++ c ∷ []
 
--- one more, unless it is not valid, or an equal one is there
+-- the certificates with this one at the end, if it is valid and no equal one is there
 abbrev pub with_valid : Rules → List Certificate → Certificate → List Certificate
 with_valid r found c = if is_valid r c then with_new found c else found
 
--- the valid ones, each once: those that `cert` lines formed, and then those that lines hand over as bytes
+-- the valid certificates of a run, each once: those that `cert` lines formed, and then those that `raw .. hold` lines
+-- hand over as bytes
 abbrev pub certified : Rules → List Certificate → List Event → List Certificate
 certified r formed events = fold (with_valid r) [] (formed ++ flat_map handed_over events)
 
--- what is said of each of these with each after it
+-- the bytes that `says` gives for each two of these, in order
 abbrev pub of_pairs : (Certificate → Certificate → List ℕ) → List Certificate → List ℕ
 of_pairs says [] = []
 of_pairs says (c ∷ cs) = flat_map (says c) cs ++ of_pairs says cs

@@ -33,22 +33,22 @@ object_line k o = with_digest (codes "object " ++ object_name (setting_with k) (
 
 -- ---- texts
 
--- the transactions that lines made, in the order of their lines
+-- the lines of the transactions, in the order of the `tx` lines that made them
 abbrev pub txs_text : Known → List ℕ
 txs_text k = flat_map tx_line k.txs
 
--- what a member has built, over all its epochs
+-- the lines of the checkpoints that a member has built, over all its epochs
 abbrev pub checkpoints_text : Member → List ℕ
 checkpoints_text m = flat_map checkpoint_line (built m)
 
--- its live objects, in the order in which a report shows them
+-- the lines of a member's live objects, in the order in which a report shows them
 abbrev pub objects_text : Known → Member → List ℕ
 objects_text k m = flat_map (object_line k) (shown_order (setting_with k) (world_with k) (live_objects m))
 
 abbrev pub member_text : Known → Member → List ℕ
 member_text k m = checkpoints_text m ++ objects_text k m
 
--- ---- what is said
+-- ---- the answers of `digests`
 
 -- the state of the lowest-numbered member that is honest and up
 pub record IsLowest (states : States) (m : Member) : Type 0 where
@@ -56,18 +56,19 @@ pub record IsLowest (states : States) (m : Member) : Type 0 where
   pub here : states place ≡ Some m
   pub first : (i : ℕ) → i < place → states i ≡ None
 
--- no member is
+-- no member is honest and up
 abbrev pub NoneStands : States → Type 0
 NoneStands states = (i : ℕ) → states i ≡ None
 
--- after the transactions stands what the lowest-numbered such member has
+-- the answer with a member: the lines of the transactions, then those of the lowest-numbered member that is honest and
+-- up
 pub record IsStanding (k : Known) (states : States) (status : ℕ) (text : List ℕ) : Type 0 where
   pub done : status ≡ 0
   pub member : Member
   pub lowest : IsLowest states member
   pub is : text ≡ txs_text k ++ member_text k member
 
--- there is no such member, and only the transactions stand
+-- the answer without a member: only the lines of the transactions, if no member is honest and up
 pub record IsAlone (k : Known) (states : States) (status : ℕ) (text : List ℕ) : Type 0 where
   pub done : status ≡ 0
   pub none : NoneStands states

@@ -22,7 +22,7 @@ use Rattle.inspect.specs.Part.{part_of}
 use Rattle.inspect.specs.Sight.{Sight, sight_of}
 use Rattle.inspect.specs.StateLines.{SaysStates, SaysStatesAt}
 
--- what is said of what the questions look at: a status and bytes
+-- the status and bytes that answer a question, in terms of what the questions look at (`Sight`)
 abbrev pub Says : Question → Sight → ℕ → List ℕ → Type 0
 Says (question.Chain m members) x status text = SaysChain program_trust.accepts x.states m members status text
 Says question.Digests x status text = SaysDigests x.known x.states status text
@@ -30,16 +30,16 @@ Says question.Blame x status text = SaysBlame x.rules x.names x.formed x.events 
 Says question.States x status text = SaysStates x.known x.crew x.states status text
 Says (question.StatesAt line) x status text = SaysStatesAt line x.lines x.known x.crew x.states status text
 
--- a way of writing bytes
+-- what became of the answer's bytes: all were written, or a prefix
 abbrev pub Writing : Type 1
 Writing = List ℕ → Type 0
 
--- bytes that may be said of it were written in this way
+-- bytes that answer the question were written as `Written` says
 abbrev pub SaysOf : Question → Sight → ℕ → Writing → Type 0
 SaysOf q x status Written = (text : List ℕ) × Says q x status text × Written text
 
--- Likewise for the world after the whole run of the schedule that a text is under the seals of the program, if what its lines
--- read back is what was appended.
+-- bytes that answer the question about the world after the whole run of a schedule, under the seals of the program,
+-- were written, if what its lines read back is what was appended
 abbrev pub SaysBehind : Question → List ℕ → Schedule → Option Journals → ℕ → Writing → Type 0
 SaysBehind q text s kept status Written = ReadsBack kept s.events → SaysOf q (sight_of (setting_in program_trust s) (world_after (setting_in program_trust s) s.events) s.events (length (lines_of text))) status Written
 
@@ -50,22 +50,22 @@ pub record RunsAndSays (q : Question) (text : List ℕ) (status : ℕ) (Written 
   pub journals : KeepsRun program_trust schedule kept kept'
   pub says : SaysBehind q text schedule kept status Written
 
--- prefixes of the records of a schedule were kept
+-- a prefix of each journal of the schedule's run was kept; nothing of a text that is not a schedule
 abbrev pub KeepsSome : Result Schedule Refused → Option Journals → Option Journals → Type 0
 KeepsSome (Ok s) kept kept' = KeepsFronts program_trust s kept kept'
 KeepsSome (Err r) kept kept' = KeepsJournals kept kept'
 
--- a prefix of what is to be said was written
+-- an answer, or the line that refuses the text, was written as `Written` says
 abbrev pub SaysSome : Question → List ℕ → Result Schedule Refused → Option Journals → Writing → Type 0
 SaysSome q text (Ok s) kept Written = (status : ℕ) × SaysBehind q text s kept status Written
 SaysSome q text (Err r) kept Written = Written (refusal_text r)
 
--- what was done with a text before it was cut
+-- what stands of a text after a run that broke off: prefixes of its journals, and a prefix of the answer or nothing
 pub record CutsText (q : Question) (text : List ℕ) (held held' : Option (List ℕ)) (kept kept' : Option Journals) : Type 0 where
   pub journals : KeepsSome (schedule_of text) kept kept'
   pub written : Keeps held held' ⊎ SaysSome q text (schedule_of text) kept (AppendsFront held held')
 
--- a record that was read back is bad
+-- the text is a schedule, and its run met a bad record when it read one back
 abbrev pub MeetsBad : List ℕ → Option Journals → Type 0
 MeetsBad text kept = (s : Schedule) × (schedule_of text ≡ Ok s) × MeetsBadRecord program_trust s Appends None None kept
 
@@ -79,7 +79,7 @@ pub record OfText (Is : List ℕ → Type 0) (left left' : Option (List ℕ)) : 
   pub read : ReadsText longest_text left left' text
   pub so : Is text
 
--- how a question ends, of as much of the text as it runs
+-- how the program may end for a question, by its status; `part_of` is as much of the text as the question runs
 pub record AskEnds (q : Question) (before now : Outside) (status : ℕ) : Type 0 where
   pub known : (status ≡ 0) ⊎ (status ≡ 3) ⊎ (status ≡ 4) ⊎ (status ≡ 5) ⊎ (status ≡ 6) ⊎ (status ≡ 7) ⊎ (status ≡ 8)
   pub whole : (status ≡ 0) ⊎ (status ≡ 8) → OfText (λ text. RunsAndSays q (part_of q text) status (Appends before.held now.held) before.kept now.kept) before.left now.left

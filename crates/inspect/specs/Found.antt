@@ -8,7 +8,7 @@ use Rattle.protocol_spec.specs.Chain.Words.{Each}
 use Rattle.tables.specs.Named.{Named, named}
 use Rattle.inspect.specs.Certified.{is_there}
 
--- it can be encoded, and its members ascend, are distinct and are known
+-- a certificate that may be kept: it can be encoded, and its members ascend, are distinct and are known
 pub record IsSound (stakes : List ℕ) (c : Certificate) : Type 0 where
   pub short : messages.certificate.short c
   pub roll : is_roll stakes (members_of c) ≡ true

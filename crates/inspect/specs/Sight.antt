@@ -27,11 +27,11 @@ pub record Sight : Type 0 where
   pub events : List Event
   pub lines : ℕ
 
--- of a world after these events, of a text of this many lines
+-- what the questions see of the definition's world after these events, for a text of this many lines
 abbrev pub sight_of : Setting → World → List Event → ℕ → Sight
 sight_of s w events lines = record { states = states_of s w; crew = map seat_honest w.seats; rules = s.rules; known = names_of s w; names = tx_name w; formed = map cert_in w.certs; events = events; lines = lines }
 
--- as the code sees it, under the seals of the program
+-- what the questions see of the code's scene after these events, under the seals of the program
 abbrev pub sight_in : Scene → List Event → ℕ → Sight
 sight_in sc events lines = record { states = states_in sc.posts; crew = honest_flags sc.posts; rules = rules_in program_trust.accepts sc; known = sc.known; names = tx_name (world_with sc.known); formed = map cert_in sc.certs; events = events; lines = lines }
 
@@ -40,6 +40,6 @@ abbrev pub events_in : Result Schedule Refused → List Event
 events_in (Ok s) = s.events
 events_in (Err r) = []
 
--- as the code sees it after this text
+-- what the questions see of the code's scene after the run of this text
 abbrev pub sight_behind : Scene → List ℕ → Sight
 sight_behind sc text = sight_in sc (events_in (schedule_of text)) (length (lines_of text))

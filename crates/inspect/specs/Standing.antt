@@ -12,10 +12,10 @@ use Rattle.committee_core.specs.Follow.{state_in}
 abbrev pub States : Type 0
 States = ℕ → Option Member
 
--- in a world
+-- these states in the definition's world
 abbrev pub states_of : Setting → World → States
 states_of s w = λ m. state_in s (slice_get w.seats m)
 
--- as the code sees the members
+-- these states in the code's posts
 abbrev pub states_in : List Post → States
 states_in posts = λ m. option_map (λ (seat : Seated). seat.state) (honest_at (slice_get posts m))

@@ -31,16 +31,16 @@ shown_line k o = text_of (object_line (setting_with k) (world_with k) o)
 
 -- ---- texts
 
--- live objects, in the order in which a report shows them
+-- the lines of live objects, in the order in which a report shows them
 abbrev pub shown_text : Known → List Object → List ℕ
 shown_text k objects = flat_map (shown_line k) (shown_order (setting_with k) (world_with k) objects)
 
--- a member that is honest and up: its epoch, the entries that it has taken of that epoch's sequence, the checkpoints that it has
--- built over all epochs, and its live objects
+-- the lines of a member that is honest and up: its epoch, the entries that it has taken of that epoch's sequence, the
+-- checkpoints that it has built over all epochs, and its live objects
 abbrev pub standing_text : Known → ℕ → Member → List ℕ
 standing_text k n m = standing_line n m.epoch m.sequence.number (length (built m)) (length (live_objects m)) ++ shown_text k (live_objects m)
 
--- one that is not, by whether it is honest
+-- the line of a member that is not honest and up: down if it is honest, else faulty
 abbrev pub absent_text : ℕ → Bool → List ℕ
 absent_text n true = down_line n
 absent_text n false = faulty_line n
@@ -49,11 +49,11 @@ abbrev pub state_text : Known → ℕ → Bool → Option Member → List ℕ
 state_text k n honest None = absent_text n honest
 state_text k n honest (Some m) = standing_text k n m
 
--- the members from this number on, by whether each is honest
+-- the lines of all members; `crew` says whether each is honest, the first of it for member `n`
 abbrev pub states_text : Known → States → ℕ → List Bool → List ℕ
 states_text k states n crew = concat (placed (λ m honest. state_text k m honest (states m)) n crew)
 
--- ---- what is said
+-- ---- the answers of `states`
 
 -- what `states` says of what is known under names, of whether each member is honest, and of the members as they stand
 pub record SaysStates (k : Known) (crew : List Bool) (states : States) (status : ℕ) (text : List ℕ) : Type 0 where
@@ -64,13 +64,13 @@ pub record SaysStates (k : Known) (crew : List Bool) (states : States) (status :
 abbrev pub no_line_text : ℕ → List ℕ
 no_line_text line = codes "inspect states " ++ decimal line ++ codes ": no such line" ++ 10 ∷ []
 
--- there are fewer lines than that
+-- status 8: the text has fewer lines than the question names
 pub record LacksLine (line lines : ℕ) (status : ℕ) (text : List ℕ) : Type 0 where
   pub refused : status ≡ 8
   pub few : lines < line
   pub is : text ≡ no_line_text line
 
--- there are as many, and the members are reported
+-- status 0: the text has as many lines, and the answer is that of `states`
 pub record HasLine (line lines : ℕ) (k : Known) (crew : List Bool) (states : States) (status : ℕ) (text : List ℕ) : Type 0 where
   pub enough : line ≤ lines
   pub says : SaysStates k crew states status text

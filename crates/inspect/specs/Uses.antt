@@ -8,7 +8,7 @@ use Rattle.chain_types.specs.Digests.{consumed_keys}
 use Rattle.chain_types.specs.Equal.{key_eq}
 use Rattle.chain_messages.specs.declared.messages.Certificate.{Certificate}
 
--- each consumed version, with whether that is so more than once
+-- each consumed version, with whether it is consumed more than once
 abbrev pub Uses : Type 0
 Uses = List (ObjectKey × Bool)
 
@@ -22,7 +22,7 @@ is_more (Some more) = more
 abbrev pub is_shared : Uses → ObjectKey → Bool
 is_shared uses key = is_more (use_of uses key)
 
--- once more
+-- the uses with one more of this version
 abbrev pub with_use : Uses → ObjectKey → Uses
 with_use uses key = insert_entry key_eq uses key (is_some (use_of uses key))
 

@@ -7,7 +7,7 @@ use Rattle.command_words.specs.ListWords.{numbers_in}
 use Rattle.inspect.specs.declared.questions.Question.{Question}
 use Rattle.inspect.specs.declared.questions.Question.TheVariants as question
 
--- each above the one before it
+-- the numbers if they ascend, each above the one before it; else none
 abbrev pub in_order : List ℕ → Option (List ℕ)
 in_order members = where_true (ascends members) members
 
@@ -41,6 +41,6 @@ states_in (name ∷ []) = if bytes_eq name (codes "states") then Some question.S
 states_in (name ∷ line ∷ []) = if bytes_eq name (codes "states") then option_map question.StatesAt (number_in 1 16777216 line) else None
 states_in words = None
 
--- what the words ask
+-- the question that the words are, none if they are none
 unfoldable pub question_in : List (List ℕ) → Option Question
 question_in words = first_some (chain_in words ∷ digests_in words ∷ blame_in words ∷ states_in words ∷ [])

@@ -1,4 +1,4 @@
-//! What is answered of a world.
+//! The answer to a question: a status, and bytes.
 
 use wire_bcs::Seq;
 

@@ -27,7 +27,7 @@ use std::thread::Threads;
 use wire_bcs::OutOfMemory;
 use world_core::World;
 
-/// What is answered of a world.
+/// The answer to the question about this world.
 fn answer(
     alloc: Global,
     question: &Question,
@@ -47,7 +47,7 @@ fn answer(
     }
 }
 
-/// Writes an answer. Answers its status, or that of a fault.
+/// Writes an answer. Returns its status if it was written, else 5 (write fault) or 7 (out of memory).
 fn say<K: Sink>(answer: &Answer, sink: &mut K) -> u8
     requires { (answer.now.status ≡ 0) ⊎ (answer.now.status ≡ 8) }
     ensures known { (result ≡ answer.now.status) ⊎ (result ≡ 5) ⊎ (result ≡ 7) }
@@ -62,7 +62,7 @@ fn say<K: Sink>(answer: &Answer, sink: &mut K) -> u8
     }
 }
 
-/// Writes what is to be said of a world. Answers the status.
+/// Writes the answer to the question about a world. Returns the status.
 fn say_of<K: Sink>(
     alloc: Global,
     question: &Question,
@@ -95,7 +95,7 @@ fn say_refused<K: Sink>(alloc: Global, line: u64, cause: u8, sink: &mut K) -> u8
     }
 }
 
-/// Runs a text with no report, and writes what is to be said of the world after it. Answers the status.
+/// Runs a text with no report, and writes the answer to the question about the world after it. Returns the status.
 fn ask_text<R: Threads + Sync, K: Sink, D: Keeper>(
     rt: &R,
     alloc: Global,
@@ -127,8 +127,8 @@ fn ask_text<R: Threads + Sync, K: Sink, D: Keeper>(
     }
 }
 
-/// Runs as much of a text as the question runs, with no report, and writes what is to be said of the world after it. Answers
-/// the status.
+/// Runs as much of a text as the question runs, with no report, and writes the answer about the world after it.
+/// Returns the status.
 fn ask_part<R: Threads + Sync, K: Sink, D: Keeper>(
     rt: &R,
     alloc: Global,

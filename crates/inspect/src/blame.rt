@@ -1,4 +1,4 @@
-//! The answer of `blame`.
+//! The answer of `blame`: who sealed two votes of which an honest member casts at most one.
 
 ghost use Rattle.std.specs.Prelude.{◌≡◌, None, IfOk, OnOk, fold, map};
 ghost use Rattle.protocol_spec.specs.Chain.Certificates.{rules_of};
@@ -81,7 +81,7 @@ fn blame_lines<S: Sealer>(
     text
 }
 
-/// What is answered of the certificates of a world and of these lines.
+/// The answer about the certificates of a world and of these lines.
 fn blame_among(alloc: Global, world: &World, events: &[Event]) -> Result<Answer, OutOfMemory>
     ensures { IfOk result (λ a. SaysBlame (rules_in program_trust.accepts world.now) (tx_name (world_with world.now.known)) (map cert_in world.now.certs) events.now a.status a.text) }
 {

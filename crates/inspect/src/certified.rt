@@ -94,7 +94,7 @@ impl Found {
         self.certs.push(copy)
     }
 
-    /// Adds the one that these bytes encode, if they encode one.
+    /// Adds the certificate that these bytes encode, if they encode a valid one that is new.
     #[tactic(auto, unfolding(protocol_spec::specs::Chain::Certificates::read_certificate))]
     fn add_spelled<S: Sealer>(
         &mut self,
@@ -114,7 +114,7 @@ impl Found {
         }
     }
 
-    /// Adds the one that a line hands over as bytes, if it does.
+    /// Adds the certificate that a line hands over as bytes, if it is a `raw .. hold` line.
     fn add_held<S: Sealer>(
         &mut self,
         alloc: Global,
@@ -132,7 +132,7 @@ impl Found {
         }
     }
 
-    /// Adds those that lines hand over as bytes.
+    /// Adds the certificates that lines hand over as bytes.
     pub(crate) fn add_handed<S: Sealer>(
         &mut self,
         alloc: Global,

@@ -1,4 +1,4 @@
-//! The answer of `chain M MEMBERS`.
+//! The answer of `chain M MEMBERS`: the encoded chain of member M's checkpoints under seals of the members.
 
 ghost use Rattle.std.specs.Prelude.{◌≡◌, ◌≤◌, IfOk, Some, length};
 ghost use Rattle.light_check.specs.Chains as codecs;
@@ -99,7 +99,7 @@ fn standing_answer(
     }
 }
 
-/// What is answered of the chain of a member, under the seals of these members.
+/// The answer about the chain of a member, under the seals of these members.
 pub(crate) fn chain_answer(
     alloc: Global,
     world: &World,

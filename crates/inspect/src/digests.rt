@@ -1,4 +1,4 @@
-//! The answer of `digests`.
+//! The answer of `digests`: the digests of transactions, checkpoints and objects.
 
 ghost use Rattle.std.specs.Prelude.{◌≡◌, ◌<◌, ◌++◌, IfOk, IfSome, None, OnOk, Some, length, slice_get};
 ghost use Rattle.std.specs.List.{flat_map};
@@ -128,7 +128,7 @@ fn lowest(world: &World) -> Option<&Validator>
     None
 }
 
-/// What is answered of the digests of a world.
+/// The answer about the digests of a world.
 pub(crate) fn digests_answer(alloc: Global, world: &World) -> Result<Answer, OutOfMemory>
     ensures { IfOk result (λ a. SaysDigests world.now.known (states_in world.now.posts) a.status a.text) }
 {

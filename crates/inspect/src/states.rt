@@ -1,4 +1,4 @@
-//! The answers of `states` and of `states L`.
+//! The answers of `states` and `states L`: how each member stands, and its live objects.
 
 ghost use Rattle.std.specs.Prelude.{◌≡◌, ◌++◌, IfOk, OnOk, length, slice_get};
 ghost use Rattle.std.specs.List.{flat_map};
@@ -99,7 +99,7 @@ fn members_text(alloc: Global, world: &World) -> Result<Seq<u8>, OutOfMemory>
     Ok(text)
 }
 
-/// What is answered of the members of a world.
+/// The answer about the members of a world.
 pub(crate) fn states_answer(alloc: Global, world: &World) -> Result<Answer, OutOfMemory>
     ensures { IfOk result (λ a. SaysStates world.now.known (honest_flags world.now.posts) (states_in world.now.posts) a.status a.text) }
 {
@@ -120,7 +120,8 @@ fn no_line_answer(alloc: Global, line: u64) -> Result<Answer, OutOfMemory>
     })
 }
 
-/// What is answered of the members of a world after a text of which this many lines were to run.
+/// The answer about the members of a world after the first `line` lines of a text; status 8 if the text has fewer
+/// lines.
 pub(crate) fn states_at_answer(
     alloc: Global,
     line: u64,

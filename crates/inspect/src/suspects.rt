@@ -12,7 +12,7 @@ use std::alloc::Global;
 use std::marker::Model;
 use wire_bcs::{Duplicate, OutOfMemory, Seq};
 
-/// Versions that are consumed. Contracts see each with whether that is so more than once.
+/// The consumed versions. Contracts see each with whether it is consumed more than once.
 #[derive(Drop)]
 struct UseTable {
     more: IndexMap<ObjectKey, bool>,
@@ -105,7 +105,7 @@ fn uses_of(alloc: Global, certs: &[Certificate]) -> Result<UseTable, OutOfMemory
     Ok(uses)
 }
 
-/// Copies of those that consume a version which is consumed more than once.
+/// Copies of the certificates that consume a version which is consumed more than once.
 fn suspects_by(
     alloc: Global,
     uses: &UseTable,
@@ -122,7 +122,7 @@ fn suspects_by(
     Ok(suspects)
 }
 
-/// Copies of those that consume a version which another one consumes too.
+/// Copies of the certificates that consume a version which another one of them consumes too.
 pub(crate) fn suspects(
     alloc: Global,
     certs: &[Certificate],

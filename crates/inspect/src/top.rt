@@ -1,4 +1,4 @@
-//! The top call.
+//! The [`inspect`] call: the whole program over any source, sink and keeper.
 
 ghost use Rattle.std.specs.Prelude.{◌≡◌, ◌↔◌, ◌≤◌, None, Some, map};
 ghost use Rattle.std.specs.String.{string_bytes};

@@ -14,7 +14,7 @@ use Rattle.kothaysu.specs.declared.answer.Bytes32.{Bytes32}
 abbrev pub said : ℕ → ℕ → ℕ → ℕ → Answer
 said code cause first second = record { code = code; cause = cause; first = first; second = second }
 
--- why there is no other answer
+-- the answer for a refusal of the light client: its code, and what it says more
 abbrev pub refused : Refusal → Answer
 refused refusal.OutOfMemory = said 1 0 0 0
 refused refusal.TooLarge = said 2 0 0 0
@@ -29,7 +29,7 @@ refused (refusal.NoAcknowledgement place) = said 11 0 place 0
 refused (refusal.Differ a b) = said 12 0 a b
 refused refusal.NoRivals = said 13 0 0 0
 
--- why stakes are not a committee
+-- the answer for stakes that are not a committee: code 4, and why
 abbrev pub no_committee : CommitteeRefusal → Answer
 no_committee no_one.NoMembers = said 4 1 0 0
 no_committee no_one.TooManyMembers = said 4 2 0 0
@@ -43,11 +43,11 @@ abbrev pub by_committee : {A : Type 0} → Result (List ℕ) CommitteeRefusal �
 by_committee (Ok stakes) asks = as_answer (asks stakes)
 by_committee (Err why) asks = Err (no_committee why)
 
--- what is asked of the committee of these stakes
+-- the answer to a question about the committee of these stakes; if they are none, the answer that says why
 abbrev pub for_committee : {A : Type 0} → List ℕ → (List ℕ → Result A Refusal) → Result A Answer
 for_committee stakes asks = by_committee (committee_of stakes) asks
 
--- memory was refused, or the answer is what is said
+-- the code's answer is the definition's; an answer with code 1 (out of memory) says nothing about it
 abbrev pub Answered : {A : Type 0} → Result A Answer → Result A Answer → Type 0
 Answered (Ok x) answer = answer ≡ Ok x
 Answered (Err why) answer = (why.code == 1) ≡ false → answer ≡ Err why
@@ -56,11 +56,11 @@ abbrev pub told : {A : Type 0} → (A → Answer) → Result A Answer → Answer
 told says (Ok x) = says x
 told says (Err why) = why
 
--- code 1, or what is said
+-- the answer that a caller in C sees is the definition's, in numbers; code 1 (out of memory) says nothing about it
 abbrev pub Tells : {A : Type 0} → (A → Answer) → Answer → Result A Answer → Type 0
 Tells says answer result = (answer.code == 1) ≡ false → answer ≡ told says result
 
--- what code 0 puts into an output
+-- what stands in an output buffer after code 0
 abbrev pub Puts : {A O : Type 0} → (A → O) → O → Result A Answer → Type 0
 Puts puts out (Ok x) = out ≡ puts x
 Puts puts out (Err why) = ⊥
@@ -71,6 +71,6 @@ as_bytes d = record { bytes = d.0 }
 abbrev pub of_bytes : Bytes32 → Digest
 of_bytes b = record { 0 = b.bytes }
 
--- accepted is the keyed seal under this secret
+-- whether a seal is the keyed seal of these bytes by this signer under this secret
 abbrev pub keyed : Bytes32 → Signer → List ℕ → Digest → Bool
 keyed secret who bytes seal = bytes_eq seal.0 (keyed_seal secret.bytes who bytes).0

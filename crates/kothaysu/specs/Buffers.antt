@@ -8,13 +8,14 @@ use Rattle.kothaysu.specs.declared.answer.Answer.{Answer}
 use Rattle.kothaysu.specs.declared.blaming.Version.{Version}
 use Rattle.kothaysu.specs.Answers.{said}
 
--- a buffer that begins with these items
+-- a buffer after these items were written to its start
 abbrev pub filled : {A : Type 0} → List A → List A → List A
 filled buffer items = items ++ drop (length items) buffer
 
 -- ---- listings
 
--- if both buffers have room code 0, and else 14; with the numbers that are needed
+-- the answer for a listing, by the lengths of the two buffers: code 0 if both have room, else 14; in both cases with
+-- the lengths that it needs
 abbrev pub list_told : ℕ → ℕ → Listing → Answer
 list_told rows statements l =
     if nat_lt rows (length l.rows) || nat_lt statements (length l.statements) then said 14 0 (length l.rows) (length l.statements)

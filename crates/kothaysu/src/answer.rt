@@ -1,4 +1,4 @@
-//! What a call answers.
+//! The [`Answer`] of each call of the C interface: a code with numbers.
 
 ghost use Rattle.std.specs.Prelude.{◌≡◌};
 ghost use Rattle.kothaysu.specs.Answers.{as_bytes, no_committee, refused, said};
@@ -24,7 +24,7 @@ pub struct Bytes32 {
     pub bytes: [u8; 32],
 }
 
-/// An answer of these parts.
+/// The answer with this code and these numbers.
 pub(crate) fn said(code: u32, cause: u32, first: u64, second: u64) -> Answer
     ensures { result ≡ said code cause first second }
 {
@@ -36,7 +36,7 @@ pub(crate) fn said(code: u32, cause: u32, first: u64, second: u64) -> Answer
     }
 }
 
-/// The answer that says why there is no other.
+/// The answer for a refusal of the light client: its code, and what it says more.
 pub(crate) fn refused(refusal: Refusal) -> Answer
     ensures { result ≡ refused refusal }
 {
@@ -56,7 +56,7 @@ pub(crate) fn refused(refusal: Refusal) -> Answer
     }
 }
 
-/// The answer that says why stakes are not a committee.
+/// The answer for stakes that are not a committee: code 4, and why.
 pub(crate) fn no_committee(refusal: CommitteeRefusal) -> Answer
     ensures { result ≡ no_committee refusal }
 {

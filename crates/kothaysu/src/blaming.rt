@@ -30,7 +30,7 @@ fn as_version(key: &ObjectKey) -> Version
     }
 }
 
-/// Who is to blame.
+/// Who is to blame for the two certificates that the bytes encode, or the answer that says why nobody is.
 fn both(alloc: Global, one: &[u8], other: &[u8]) -> Result<DoubleVote, Answer>
     ensures { Answered result (as_answer (blame_answer one.now other.now)) }
 {

@@ -1,4 +1,4 @@
-//! Certificates.
+//! The calls that check a certificate.
 
 ghost use Rattle.std.specs.Prelude.{◌≡◌, ◌==◌, ℕ, false};
 ghost use Rattle.digest_core.specs.declared.Digest.{Digest as DigestOf};
@@ -25,7 +25,7 @@ fn certified<C: Checker>(
     Ok(check_certificate(alloc, certificate, &committee, checker)?)
 }
 
-/// Likewise under keyed seals.
+/// The digest and the epoch of the transaction of a certificate that is valid under the keyed seals of this secret.
 fn certified_keyed(
     alloc: Global,
     stakes: &[u32],
@@ -66,7 +66,8 @@ pub extern "C" fn kothaysu_check_certificate(
     answer.code
 }
 
-/// Likewise under the keyed seals of this secret.
+/// Whether the bytes encode a certificate that is valid for the committee of these stakes, under the keyed seals of
+/// this secret. Code 0: as for `kothaysu_check_certificate`.
 #[unsafe(no_mangle)]
 pub extern "C" fn kothaysu_check_certificate_keyed(
     alloc: Global,

@@ -1,4 +1,4 @@
-//! Chains of checkpoints.
+//! The calls that check a chain of checkpoints, and find a transaction in it.
 
 ghost use Rattle.std.specs.Prelude.{◌≡◌, ◌==◌, ℕ, false};
 ghost use Rattle.digest_core.specs.declared.Digest.{Digest as DigestOf};
@@ -27,7 +27,7 @@ fn links<C: Checker>(
     Ok(check_chain(alloc, chain, &committee, checker)?)
 }
 
-/// Likewise under the seals of a sealer.
+/// The number of links of a chain that is certified under the seals that a sealer accepts.
 fn links_by<S: Sealer>(
     alloc: Global,
     stakes: &[u32],
@@ -40,7 +40,7 @@ fn links_by<S: Sealer>(
     Ok(check_chain_by(alloc, chain, &committee, sealer)?)
 }
 
-/// Likewise under keyed seals.
+/// The number of links of a chain that is certified under the keyed seals of this secret.
 fn links_keyed(alloc: Global, stakes: &[u32], chain: &[u8], secret: &Bytes32) -> Result<u64, Answer>
     ensures { Answered result (for_committee stakes.now (λ s. chain_answer s (keyed secret.now) chain.now)) }
 {
@@ -77,7 +77,8 @@ pub extern "C" fn kothaysu_check_chain(
     answer.code
 }
 
-/// Likewise under the keyed seals of this secret.
+/// Whether the bytes encode a chain that the committee of these stakes has certified, under the keyed seals of this
+/// secret. Code 0: `first` is the number of links.
 #[unsafe(no_mangle)]
 pub extern "C" fn kothaysu_check_chain_keyed(
     alloc: Global,
@@ -93,7 +94,7 @@ pub extern "C" fn kothaysu_check_chain_keyed(
     answer.code
 }
 
-/// Where a chain has a transaction.
+/// The number of the first checkpoint of the chain that has the transaction, and the digest of the effects there.
 fn found(alloc: Global, chain: &[u8], tx: &Bytes32) -> Result<(u64, Digest), Answer>
     ensures { Answered result (as_answer (found_answer (of_bytes tx.now) chain.now)) }
 {

@@ -1,4 +1,4 @@
-//! Digests of transactions, objects and effects.
+//! The calls that compute the digest of a transaction, an object or effects from their bytes.
 
 ghost use Rattle.std.specs.Prelude.{◌≡◌, ◌==◌, false};
 ghost use Rattle.digest_core.specs.declared.Digest.{Digest as DigestOf};

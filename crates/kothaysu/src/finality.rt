@@ -1,4 +1,4 @@
-//! What a quorum acknowledged.
+//! The calls that check what a quorum acknowledged.
 
 ghost use Rattle.std.specs.Prelude.{◌≡◌, ◌==◌, false};
 ghost use Rattle.light_client.specs.Accepted.{accepted_in};
@@ -21,7 +21,7 @@ pub struct Final {
     pub effects: Bytes32,
 }
 
-/// What was acknowledged, as C has it.
+/// What a quorum acknowledged, in the struct that C reads.
 fn as_final(acknowledged: Acknowledged) -> Final
     ensures { result ≡ as_final acknowledged }
 {
@@ -45,7 +45,7 @@ fn acknowledged<C: Checker>(
     Ok(check_final(alloc, acknowledgements, &committee, checker)?)
 }
 
-/// Likewise under keyed seals.
+/// What a quorum acknowledged under the keyed seals of this secret.
 fn acknowledged_keyed(
     alloc: Global,
     stakes: &[u32],
@@ -86,7 +86,8 @@ pub extern "C" fn kothaysu_check_final(
     answer.code
 }
 
-/// Likewise under the keyed seals of this secret.
+/// Whether the list of sealed statements that the bytes encode shows what a quorum of the committee of these stakes
+/// acknowledged, under the keyed seals of this secret. Code 0: `found` is filled.
 #[unsafe(no_mangle)]
 pub extern "C" fn kothaysu_check_final_keyed(
     alloc: Global,

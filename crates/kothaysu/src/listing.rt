@@ -1,4 +1,4 @@
-//! The seals that bytes have, to be accepted or not.
+//! The calls that list the seals of a chain, a certificate or acknowledgements, for a caller that checks seals itself.
 
 ghost use Rattle.std.specs.Prelude.{◌≡◌, ◌==◌, false, length};
 ghost use Rattle.light_client.specs.Listing.{acknowledgements_listing, certificate_listing, chain_listing};
@@ -10,7 +10,7 @@ use crate::buffers::put_listing;
 use light_client::{Listing, SealRow, list_acknowledgements, list_certificate, list_chain};
 use std::alloc::Global;
 
-/// The seals of the chain.
+/// The seals of the chain that the bytes encode.
 fn of_chain(alloc: Global, bytes: &[u8]) -> Result<Listing, Answer>
     ensures { Answered result (as_answer (chain_listing bytes.now)) }
 {
@@ -45,7 +45,7 @@ pub extern "C" fn kothaysu_chain_seals(
     answer.code
 }
 
-/// The seals of the certificate.
+/// The seals of the certificate that the bytes encode.
 fn of_certificate(alloc: Global, bytes: &[u8]) -> Result<Listing, Answer>
     ensures { Answered result (as_answer (certificate_listing bytes.now)) }
 {
@@ -80,7 +80,7 @@ pub extern "C" fn kothaysu_certificate_seals(
     answer.code
 }
 
-/// The seals of the list of sealed statements.
+/// The seals of the list of sealed statements that the bytes encode.
 fn of_acknowledgements(alloc: Global, bytes: &[u8]) -> Result<Listing, Answer>
     ensures { Answered result (as_answer (acknowledgements_listing bytes.now)) }
 {

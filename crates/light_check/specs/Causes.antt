@@ -18,7 +18,7 @@ use Rattle.light_check.specs.declared.chain.ChainRefusal.TheVariants as refused
 use Rattle.light_check.specs.declared.link.Tip.{Tip}
 use Rattle.light_check.specs.Certified.{Accepting, members_in, stated}
 
--- what the next link goes on from
+-- what a link leaves for the check of the next one: number, digest, epoch, and whether the epoch ended
 abbrev pub tip_of : Checkpoint → Tip
 tip_of c = record { number = c.number; digest = digest_of_checkpoint c; epoch = c.epoch; last = c.last }
 
@@ -59,7 +59,8 @@ cause_of stakes accepts before l = first_some (
 abbrev pub at_place : ℕ → Option LinkCause → Option (ℕ × ℕ)
 at_place place cause = option_map (λ c. (place, number_of_cause c)) cause
 
--- the place and the cause's number of the first bad link, if the first of these stands at this place after this tip
+-- the place of the first bad link and the number of its cause; the first link of the list stands at this place, after
+-- this tip
 abbrev pub first_bad_from : List ℕ → Accepting → ℕ → Option Tip → List Link → Option (ℕ × ℕ)
 first_bad_from stakes accepts place before [] = None
 first_bad_from stakes accepts place before (l ∷ ls) =
@@ -68,7 +69,7 @@ first_bad_from stakes accepts place before (l ∷ ls) =
 abbrev pub first_bad : List ℕ → Accepting → List Link → Option (ℕ × ℕ)
 first_bad stakes accepts links = first_bad_from stakes accepts 0 None links
 
--- memory was refused, or the answer is what is said
+-- the code's answer about a chain is the definition's; that memory was refused says nothing
 abbrev pub Checks : Result (Unit {0}) ChainRefusal → Option (ℕ × ℕ) → Type 0
 Checks (Ok done) bad = bad ≡ None
 Checks (Err (refused.Bad place cause)) bad = bad ≡ Some (place, cause)

@@ -14,7 +14,7 @@ use Rattle.checkpoint_core.specs.Links.{wanted_number, wanted_parent}
 use Rattle.protocol_spec.specs.Chain.Words.{Each}
 use Rattle.light_check.specs.declared.chain.Link.{Link}
 
--- which seals are accepted, over which bytes
+-- a seal scheme: which seals of which signer over which bytes are accepted
 abbrev pub Accepting : Type 0
 Accepting = Signer → List ℕ → Digest → Bool
 
@@ -22,7 +22,7 @@ Accepting = Signer → List ℕ → Digest → Bool
 abbrev pub tip_of : Checkpoint → ℕ × Digest
 tip_of c = (c.number, digest_of_checkpoint c)
 
--- the epoch of the checkpoint that comes after this one, and of the first
+-- the epoch that the checkpoint after this one has to have, 0 for the first
 abbrev pub wanted_epoch : Option Checkpoint → ℕ
 wanted_epoch None = 0
 wanted_epoch (Some c) = if c.last then c.epoch + 1 else c.epoch
@@ -30,7 +30,7 @@ wanted_epoch (Some c) = if c.last then c.epoch + 1 else c.epoch
 abbrev pub members_in : Link → List ℕ
 members_in l = map (λ (s : MemberSeal). s.member) l.seals
 
--- what a member states of a checkpoint that it built, as it is sealed
+-- the bytes that a member seals for a checkpoint that it built: the encoding of its statement
 abbrev pub stated : Checkpoint → List ℕ
 stated c = statement.spell (statements.Checkpoint c.epoch c.number (digest_of_checkpoint c))
 
@@ -46,11 +46,12 @@ pub record IsLinked (stakes : List ℕ) (accepts : Accepting) (before : Option C
   pub quorum : is_quorum stakes (weight stakes (members_in l)) ≡ true
   pub sealed : Each (IsAccepted accepts (stated l.checkpoint)) l.seals
 
--- the links go on from this checkpoint, and from one another
+-- each link goes on from the one before it, the first from this checkpoint, and each has the seals of a quorum
 abbrev pub IsCertifiedBehind : List ℕ → Accepting → Option Checkpoint → List Link → Type 0
 IsCertifiedBehind stakes accepts before [] = Unit {0}
 IsCertifiedBehind stakes accepts before (l ∷ ls) = IsLinked stakes accepts before l × IsCertifiedBehind stakes accepts (Some l.checkpoint) ls
 
--- a certified chain begins with number 0
+-- a chain is certified: it begins with number 0, and each link goes on from the one before and has the seals of a
+-- quorum
 abbrev pub IsCertified : List ℕ → Accepting → List Link → Type 0
 IsCertified stakes accepts links = IsCertifiedBehind stakes accepts None links

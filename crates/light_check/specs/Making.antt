@@ -6,7 +6,7 @@ use Rattle.protocol_spec.specs.Chain.Words.{Each}
 use Rattle.light_check.specs.declared.chain.Link.{Link}
 use Rattle.light_check.specs.Certified.{Accepting, IsAccepted, members_in, stated}
 
--- each can be encoded
+-- each checkpoint can be encoded
 abbrev pub AllShort : List Checkpoint → Type 0
 AllShort checkpoints = Each checkpoint.short checkpoints
 
@@ -16,7 +16,7 @@ pub record IsSealedBy (accepts : Accepting) (members : List ℕ) (c : Checkpoint
   pub by : members_in l ≡ members
   pub sealed : Each (IsAccepted accepts (stated c)) l.seals
 
--- likewise for each checkpoint, in order
+-- the links are those of the checkpoints, in order, each under an accepted seal of each of these members
 abbrev pub AreSealedBy : Accepting → List ℕ → List Checkpoint → List Link → Type 0
 AreSealedBy accepts members [] [] = Unit {0}
 AreSealedBy accepts members [] (l ∷ ls) = ⊥

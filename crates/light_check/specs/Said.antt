@@ -15,11 +15,11 @@ use Rattle.light_check.specs.declared.said.Piece.{Piece}
 use Rattle.light_check.specs.declared.said.Piece.TheVariants as piece
 use Rattle.outside.specs.Streams.{AppendsFront, ReadsText}
 
--- the bytes of a chain, at most
+-- the most bytes of a chain
 abbrev pub longest_chain : ℕ
 longest_chain = 16777216
 
--- too many bytes, or what a client that trusts the stakes says of them
+-- what `check` finds in bytes: too many of them, or the verdict of a client that trusts the stakes
 unfoldable pub finding_on : List ℕ → Accepting → Digest → List ℕ → Finding
 finding_on stakes accepts tx bytes =
     if nat_lt longest_chain (length bytes) then finding.TooLarge
@@ -44,7 +44,7 @@ abbrev pub finding_body : Finding → List ℕ
 finding_body finding.TooLarge = codes "refused too large"
 finding_body (finding.Judged v) = verdict_body v
 
--- the line, ended by LF
+-- the line of a finding, ended by LF
 unfoldable pub finding_text : Finding → List ℕ
 finding_text f = finding_body f ++ 10 ∷ []
 
@@ -74,15 +74,15 @@ pub record WritesCertified (stakes : List ℕ) (accepts : Accepting) (tx : Diges
   pub spelled : SpellsCertified stakes accepts tx text links included
   pub written : Appends held held' (certified_body links included ++ 10 ∷ [])
 
--- the source was read, nothing is left of it, and that was said of its bytes
+-- status 0: the source was read to its end, its bytes encode a certified chain, and the line that says so was written
 pub record SaysCertified (stakes : List ℕ) (accepts : Accepting) (tx : Digest) (left left' held held' : Option (List ℕ)) : Type 0 where
   pub text : List ℕ
   pub read : Consumes left left' text
   pub ended : IsAtEnd left'
   pub says : WritesCertified stakes accepts tx text held held'
 
--- what was read, to the end or past the limit, is longer than a chain may be or encodes no certified one, and the line
--- that says why was written
+-- status 8: what was read, to the end or past the limit, is longer than a chain may be or encodes no certified one,
+-- and the line that says why was written
 pub record SaysRefused (stakes : List ℕ) (accepts : Accepting) (tx : Digest) (left left' held held' : Option (List ℕ)) : Type 0 where
   pub text : List ℕ
   pub read : ReadsText longest_chain left left' text
@@ -95,6 +95,6 @@ pub record SaysFront (stakes : List ℕ) (accepts : Accepting) (tx : Digest) (le
   pub read : ReadsText longest_chain left left' text
   pub cut : AppendsFront held held' (finding_text (finding_on stakes accepts tx text))
 
--- it was cut: nothing was written, or a prefix
+-- `check` broke off: nothing was written, or a prefix of the line
 abbrev pub IsCheckCut : List ℕ → Accepting → Digest → Option (List ℕ) → Option (List ℕ) → Option (List ℕ) → Option (List ℕ) → Type 0
 IsCheckCut stakes accepts tx left left' held held' = Keeps held held' ⊎ SaysFront stakes accepts tx left left' held held'

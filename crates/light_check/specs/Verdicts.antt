@@ -1,4 +1,4 @@
--- What a client says of bytes that are to be a chain. Source: this profile.
+-- The verdict of a client on bytes that should be a chain. Source: this profile.
 use Rattle.std.specs.Prelude.{◌≡◌, ℕ, List, length, Option, Some, None, option_map, Result, Ok, Err}
 use Rattle.digest_core.specs.declared.Digest.{Digest}
 use Rattle.wire_bcs.specs.Place.{Stop}
@@ -16,7 +16,8 @@ use Rattle.light_check.specs.Found.{found}
 abbrev pub number_with : Digest → List Link → Option ℕ
 number_with tx links = option_map (λ at. at.0) (found tx links)
 
--- if no link is bad: how many links there are, and which checkpoint lists the transaction
+-- the verdict on a decoded chain, by its first bad link: if there is none, certified, with the number of links and the
+-- first checkpoint that lists the transaction
 abbrev pub verdict_on_chain : Digest → List Link → Option (ℕ × ℕ) → Verdict
 verdict_on_chain tx links None = verdict.Certified (length links) (number_with tx links)
 verdict_on_chain tx links (Some bad) = verdict.Bad bad.0 bad.1
@@ -25,7 +26,7 @@ abbrev pub verdict_on_read : List ℕ → Accepting → Digest → Result Chain 
 verdict_on_read stakes accepts tx (Ok c) = verdict_on_chain tx c.links (first_bad stakes accepts c.links)
 verdict_on_read stakes accepts tx (Err stop) = verdict.Malformed stop.place.at stop.why
 
--- the bytes are not an encoding of a chain, or the chain that they encode is certified or not
+-- the verdict on bytes: malformed if they do not decode to a chain, else the verdict on the chain
 unfoldable pub verdict_on : List ℕ → Accepting → Digest → List ℕ → Verdict
 verdict_on stakes accepts tx bytes = verdict_on_read stakes accepts tx (whole codecs.chain bytes)
 

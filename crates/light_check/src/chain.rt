@@ -1,4 +1,4 @@
-//! Chains of checkpoints under seals.
+//! The types of a chain: checkpoints, each under seals of members, and why a chain is not certified.
 
 use chain_messages::MemberSeal;
 use checkpoint_core::Checkpoint;

@@ -1,4 +1,4 @@
-//! Chains on the wire.
+//! The wire format of a chain: its encoder and decoder.
 
 ghost use Rattle.std.specs.Prelude.{◌≡◌, IfOk, Ok};
 ghost use Rattle.wire_bcs.specs.Whole.{whole};

@@ -11,7 +11,7 @@ use crate::link::{Tip, cause_of, tip_of};
 use quorum_core::{Checker, Committee};
 use std::alloc::Global;
 
-/// Whether the links are certified, or the first that is bad, with its first cause.
+/// Checks the links in order; the error names the first bad one, with its first cause.
 fn check_links<C: Checker>(
     alloc: Global,
     links: &[Link],

@@ -12,7 +12,8 @@ use outside::{OutFault, Sink, Source, read_text};
 use quorum_core::{Checker, Committee};
 use std::alloc::Global;
 
-/// Says what bytes that were read are, to their end or to one past the most. Answers the status.
+/// Judges the bytes that were read (all of the source, or one byte more than a chain may have), and writes the line of
+/// the finding. Answers the status.
 #[tactic(auto, using(crate::proofs::Saying::status_known, crate::proofs::Saying::nothing_said, crate::proofs::Saying::never_cut, crate::proofs::Saying::never_five))]
 fn check_read<C: Checker, K: Sink>(
     alloc: Global,

@@ -7,7 +7,7 @@ use crate::chain::{Chain, Link};
 use checkpoint_core::Item;
 use digest_core::Digest;
 
-/// The item of the transaction.
+/// The item that lists the transaction; none if no item does.
 fn item_with(items: &[Item], tx: &Digest) -> Option<Item>
     ensures { result ≡ item_with tx.now items.now }
 {

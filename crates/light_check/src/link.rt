@@ -16,7 +16,7 @@ use quorum_core::{Checker, Committee, Signer};
 use std::alloc::Global;
 use wire_bcs::{OutOfMemory, Seq};
 
-/// What the next link goes on from.
+/// What a link leaves for the check of the next one.
 #[derive(Clone, Copy, Debug, PartialEq, Eq)]
 pub(crate) struct Tip {
     pub(crate) number: u64,
@@ -25,7 +25,7 @@ pub(crate) struct Tip {
     pub(crate) last: bool,
 }
 
-/// What a checkpoint leaves to go on from.
+/// The tip after a link with this checkpoint.
 pub(crate) fn tip_of(alloc: Global, checkpoint: &Checkpoint) -> Result<Tip, OutOfMemory>
     requires { codec.short checkpoint.now }
     ensures { IfOk result (λ tip. tip ≡ tip_of checkpoint.now) }
@@ -76,7 +76,7 @@ fn is_next_epoch(before: Option<Tip>, epoch: u64) -> bool
     }
 }
 
-/// What the members state of a checkpoint, as it is sealed.
+/// The bytes that a member seals for a checkpoint: the encoding of its statement.
 #[tactic(auto, using(crate::proofs::Shorts::stated_short))]
 pub(crate) fn stated(
     alloc: Global,

@@ -75,7 +75,7 @@ fn is_among(members: &[u32], member: u32) -> bool
     members.iter().any(|m| *m == member)
 }
 
-/// Those of the others that are among the members.
+/// The members that are in both lists, in the order of `others`.
 fn among_both(alloc: Global, members: &[u32], others: &[u32]) -> Result<Seq<u32>, OutOfMemory>
     ensures { IfOk result (λ both. both ≡ filter (is_among members.now) others.now) }
 {

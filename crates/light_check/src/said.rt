@@ -1,4 +1,4 @@
-//! What is said of the bytes of a chain, and the line that says it.
+//! The finding of `check` on the bytes of a chain, and its one line.
 
 ghost use Rattle.std.specs.Prelude.{◌≡◌, ◌≤◌, ◌∷◌, [], ◌++◌, IfOk, OnOk, IsErrOf, codes, decimal};
 ghost use Rattle.std.specs.List.{concat, flat_map};
@@ -19,12 +19,12 @@ use wire_bcs::{OutOfMemory, Seq};
 /// The most bytes of an encoded chain.
 pub(crate) const LONGEST_CHAIN: u32 = 16_777_216;
 
-/// What is said of the bytes that a source holds.
+/// What `check` finds in the bytes of its source.
 #[derive(Clone, Copy)]
 pub(crate) enum Finding {
     /// They are more than a chain may have.
     TooLarge,
-    /// What a client says of them.
+    /// The verdict of a client that trusts the committee.
     Judged(Verdict),
 }
 
@@ -35,7 +35,7 @@ pub(crate) enum Piece<'a> {
     Number(u64),
 }
 
-/// What is said of bytes: that they are too many, or what a client that trusts the committee says.
+/// Judges bytes: too many of them, or the verdict of a client that trusts the committee.
 #[tactic(auto, unfolding(crate::specs::Said::finding_on))]
 pub(crate) fn find_in<C: Checker>(
     alloc: Global,
@@ -117,7 +117,7 @@ fn print_two<'a>(
     )
 }
 
-/// Prints what is said of a certified chain.
+/// Prints the line for a certified chain, without its end.
 fn print_certified(text: &mut Seq<u8>, links: u64, included: Option<u64>) -> Result<(), OutOfMemory>
     ensures { OnOk result (text.new ≡ text.old ++ certified_body links included) }
 {
@@ -158,7 +158,7 @@ fn print_body(text: &mut Seq<u8>, finding: Finding) -> Result<(), OutOfMemory>
     }
 }
 
-/// The line that says what was found.
+/// The line of a finding, ended by LF.
 #[tactic(auto, unfolding(crate::specs::Said::finding_text))]
 fn line_of(alloc: Global, finding: Finding) -> Result<Seq<u8>, OutOfMemory>
     ensures { IfOk result (λ text. text ≡ finding_text finding) }
@@ -169,7 +169,7 @@ fn line_of(alloc: Global, finding: Finding) -> Result<Seq<u8>, OutOfMemory>
     Ok(text)
 }
 
-/// Writes the line that says what was found.
+/// Writes the line of a finding.
 pub(crate) fn write_finding<K: Sink>(
     alloc: Global,
     finding: Finding,

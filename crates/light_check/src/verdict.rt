@@ -1,4 +1,4 @@
-//! What is said of bytes that are to be a chain.
+//! The verdict of a client on bytes that should be a chain.
 
 ghost use Rattle.std.specs.Prelude.{◌≡◌, ℕ, Option, Ok, IfOk, length};
 ghost use Rattle.light_check.specs.declared.chain.Chain.{Chain as ChainOf};
@@ -17,7 +17,7 @@ use quorum_core::{Checker, Committee};
 use std::alloc::Global;
 use wire_bcs::{OutOfMemory, Unread};
 
-/// What a client that trusts only the stakes says of bytes.
+/// The verdict of a client that trusts only the stakes, on bytes that should be a chain.
 #[derive(Clone, Copy, Debug, PartialEq, Eq)]
 pub enum Verdict {
     /// They encode a certified chain of this many links, and the first checkpoint that lists the transaction has this
@@ -39,7 +39,7 @@ fn number_with(chain: &Chain, tx: &Digest) -> Option<u64>
     }
 }
 
-/// What is said of a certified chain.
+/// The verdict on a chain that is certified.
 fn certified(chain: &Chain, tx: &Digest) -> Verdict
     ensures { result ≡ verdict.Certified (length chain.now.links) (number_with tx.now chain.now.links) }
 {
@@ -49,7 +49,7 @@ fn certified(chain: &Chain, tx: &Digest) -> Verdict
     }
 }
 
-/// What is said of a chain.
+/// The verdict on a decoded chain.
 fn judge_chain<C: Checker>(
     alloc: Global,
     chain: &Chain,
@@ -67,8 +67,8 @@ fn judge_chain<C: Checker>(
     }
 }
 
-/// What is said of bytes: that they are not an encoding of a chain, or that the chain that they encode is not certified by
-/// the committee, or how many links it has and in which of its checkpoints the transaction stands (this profile).
+/// The verdict on bytes that should be a chain: they do not decode to one, or the chain is not certified by the
+/// committee, or it is, with the number of its links and of the checkpoint that lists the transaction (this profile).
 #[tactic(auto, unfolding(crate::specs::Verdicts::verdict_on))]
 pub fn judge<C: Checker>(
     alloc: Global,

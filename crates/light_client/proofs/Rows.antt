@@ -47,7 +47,7 @@ names_own before statement behind s =
     ap (take (length statement)) (drop-append_seam before (statement ++ behind)) ∙ take-append_seam statement behind in
     and_from _ _ (eq-eqb s.member s.member refl) (and_from _ _ ((bytes_eq-Decides s.seal.0 s.seal.0).1 refl) ((bytes_eq-Decides _ statement).1 piece))
 
--- so it is accepted with all rows of its statement
+-- each seal on a statement is accepted if all rows of the statement are among the rows
 is_named : (before statement behind : List ℕ) (seals : List MemberSeal) → (front rows : List SealRow)
     → Each (IsAccepted (accepted_in (front ++ (map (row_at (length before) statement) seals ++ rows)) (before ++ (statement ++ behind))) statement) seals
 is_named before statement behind [] front rows = tt

@@ -18,6 +18,6 @@ names_member row (signers.User address) = false
 abbrev pub names_seal : List ℕ → Signer → List ℕ → Digest → SealRow → Bool
 names_seal statements who bytes seal row = names_member row who && (bytes_eq row.seal seal.0 && bytes_eq (statement_of statements row) bytes)
 
--- accepted is what some row names
+-- a seal is accepted if some row of the caller names it
 abbrev pub accepted_in : List SealRow → List ℕ → Signer → List ℕ → Digest → Bool
 accepted_in rows statements who bytes seal = list_any (names_seal statements who bytes seal) rows

@@ -1,5 +1,5 @@
 -- Who sealed two certificates of which an honest member sealed one at most, from bytes. Source: Sui Lutris (see
--- `blamed`); what is said if nobody is to blame is this profile's own.
+-- `blamed`); the refusals, where nobody is to blame, are this profile's own.
 use Rattle.std.specs.Prelude.{ℕ, List, Option, Some, None, Result, Ok, Err}
 use Rattle.chain_messages.specs.declared.messages.Certificate.{Certificate}
 use Rattle.chain_messages.specs.Messages.{certificate}
@@ -17,6 +17,7 @@ rivals (Some both) = Ok both
 abbrev pub blamed_answer : Certificate → Certificate → Result DoubleVote Refusal
 blamed_answer c d = rivals (blamed c d)
 
--- the version that both consume, and the members that sealed both; the first bytes are read first
+-- the answer for the bytes of two certificates: the version that both consume and the members that sealed both, or why
+-- there is none; the first bytes are read first
 unfoldable pub blame_answer : List ℕ → List ℕ → Result DoubleVote Refusal
 blame_answer one other = and_then (input certificate one) (λ (c : Certificate). and_then (input certificate other) (λ (d : Certificate). blamed_answer c d))

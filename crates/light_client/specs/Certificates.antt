@@ -1,4 +1,4 @@
--- What bytes say that are to be a certificate. Source: this profile, over the valid certificates of Sui Lutris.
+-- The answer for bytes that should be a certificate. Source: this profile, over the valid certificates of Sui Lutris.
 use Rattle.std.specs.Prelude.{◌≡◌, ℕ, List, Option, None, option_map, Result}
 use Rattle.digest_core.specs.declared.Digest.{Digest}
 use Rattle.chain_types.specs.Digests.{transaction_digest}
@@ -24,11 +24,11 @@ of_certificate refused.OutOfMemory = refusal.OutOfMemory
 abbrev pub why_invalid : List ℕ → Accepting → Certificate → Option CertRefusal
 why_invalid stakes accepts c = cert_refusal (rules_of stakes None accepts) c
 
--- the digest and the epoch of the transaction of a valid certificate
+-- the answer for a decoded certificate: the digest and the epoch of its transaction, or why it is not valid
 abbrev pub certified_answer : List ℕ → Accepting → Certificate → Result (Digest × ℕ) Refusal
 certified_answer stakes accepts c = unless_refused (option_map of_certificate (why_invalid stakes accepts c)) (transaction_digest c.tx, c.tx.epoch)
 
--- likewise for bytes
+-- the answer for bytes: why they do not decode to a certificate, else the answer for the certificate
 unfoldable pub certificate_answer : List ℕ → Accepting → List ℕ → Result (Digest × ℕ) Refusal
 certificate_answer stakes accepts bytes = and_then (input certificate bytes) (λ c. certified_answer stakes accepts c)
 

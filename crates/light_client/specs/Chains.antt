@@ -1,4 +1,5 @@
--- What bytes say that are to be a chain of checkpoints. Source: this profile, over the certified chains of Sui Lutris.
+-- The answer for bytes that should be a chain of checkpoints. Source: this profile, over the certified chains of Sui
+-- Lutris.
 use Rattle.std.specs.Prelude.{◌≡◌, ℕ, List, length, Option, Some, None, option_map, Result, Ok, Err}
 use Rattle.digest_core.specs.declared.Digest.{Digest}
 use Rattle.protocol_spec.specs.Chain.Words.{and_then, unless_refused}
@@ -15,11 +16,11 @@ use Rattle.light_client.specs.declared.refusal.Refusal.TheVariants as refusal
 abbrev pub bad_link : ℕ × ℕ → Refusal
 bad_link at = refusal.BadLink at.0 at.1
 
--- the number of links, or the first bad one
+-- the answer for decoded links: how many there are, or which is the first bad one
 abbrev pub links_answer : List ℕ → Accepting → List Link → Result ℕ Refusal
 links_answer stakes accepts links = unless_refused (option_map bad_link (first_bad stakes accepts links)) (length links)
 
--- likewise for bytes
+-- the answer for bytes: why they do not decode to a chain, else the answer for its links
 unfoldable pub chain_answer : List ℕ → Accepting → List ℕ → Result ℕ Refusal
 chain_answer stakes accepts bytes = and_then (input codecs.chain bytes) (λ (c : Chain). links_answer stakes accepts c.links)
 

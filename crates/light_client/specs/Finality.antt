@@ -35,7 +35,7 @@ abbrev pub not_one : ℕ → Option Acknowledged → Option Refusal
 not_one place None = Some (refusal.NoAcknowledgement place)
 not_one place (Some a) = None
 
--- the first that is not an acknowledgement; the first of these stands at this place
+-- the refusal of the first statement that is not an acknowledgement; the first of the list stands at this place
 abbrev pub no_acknowledgement : ℕ → List Sealed → Option Refusal
 no_acknowledgement place [] = None
 no_acknowledgement place (s ∷ said) = first_some (not_one place (acknowledged_in s.statement) ∷ no_acknowledgement (place + 1) said ∷ [])
@@ -45,7 +45,7 @@ is_other (Some a) (Some b) = not (same_acknowledged a b)
 is_other (Some a) None = false
 is_other None b = false
 
--- the statement acknowledges something else than the first one
+-- the refusal of a statement that acknowledges something else than the first one
 abbrev pub differs_from : Sealed → Sealed → Option Refusal
 differs_from first s = where_true (is_other (acknowledged_in first.statement) (acknowledged_in s.statement)) (refusal.Differ first.member s.member)
 
@@ -53,7 +53,7 @@ abbrev pub differing : List Sealed → Option Refusal
 differing [] = None
 differing (first ∷ said) = first_of (differs_from first) said
 
--- the seal is not accepted over the statement that it stands on
+-- the refusal of a seal that is not accepted over its statement
 abbrev pub bad_seal : Accepting → Sealed → Option Refusal
 bad_seal accepts s = where_true (not (accepts (signers.Member s.member) (statement.spell s.statement) s.seal)) (refusal.BadSeal s.member)
 
@@ -65,7 +65,7 @@ why_unsealed stakes said = first_some (
     where_true (not (is_quorum stakes (weight stakes (sealers said)))) (refusal.ShortStake (weight stakes (sealers said)) (total_of stakes)) ∷
     differing said ∷ [])
 
--- the seals come last
+-- why these statements show nothing: the causes above in order, and last the first seal that is not accepted
 unfoldable pub why_not_final : List ℕ → Accepting → List Sealed → Option Refusal
 why_not_final stakes accepts said = first_some (why_unsealed stakes said ∷ first_of (bad_seal accepts) said ∷ [])
 
@@ -75,7 +75,8 @@ abbrev pub first_acknowledged : List Sealed → Option Acknowledged
 first_acknowledged [] = None
 first_acknowledged (s ∷ said) = acknowledged_in s.statement
 
--- what all of them acknowledge; of none there is no quorum
+-- the answer: what all statements acknowledge if nothing is wrong with them, else why not. An empty list has too
+-- little stake
 abbrev pub acknowledged_or : Option Refusal → Option Acknowledged → Result Acknowledged Refusal
 acknowledged_or (Some why) first = Err why
 acknowledged_or None (Some a) = Ok a
@@ -84,11 +85,11 @@ acknowledged_or None None = Err (refusal.ShortStake 0 0)
 abbrev pub final_of : List ℕ → Accepting → List Sealed → Result Acknowledged Refusal
 final_of stakes accepts said = acknowledged_or (why_not_final stakes accepts said) (first_acknowledged said)
 
--- likewise for bytes
+-- the answer for bytes: why they do not decode to a list of sealed statements, else the answer for the list
 unfoldable pub final_answer : List ℕ → Accepting → List ℕ → Result Acknowledged Refusal
 final_answer stakes accepts bytes = and_then (input (seq sealed) bytes) (λ said. final_of stakes accepts said)
 
--- each can be encoded
+-- each statement can be encoded
 abbrev pub AllShort : List Sealed → Type 0
 AllShort said = Each sealed.short said
 

@@ -6,7 +6,7 @@ use Rattle.wire_bcs.specs.Whole.{whole}
 use Rattle.light_client.specs.declared.refusal.Refusal.{Refusal}
 use Rattle.light_client.specs.declared.refusal.Refusal.TheVariants as refusal
 
--- the bytes of one input, at most
+-- the most bytes of one input
 abbrev pub most_bytes : ℕ
 most_bytes = 16777216
 
@@ -14,7 +14,7 @@ abbrev pub read_of : {A : Type 0} → Result A Stop → Result A Refusal
 read_of (Ok x) = Ok x
 read_of (Err s) = Err (refusal.Malformed s.place.at s.why)
 
--- the value that all the bytes encode
+-- the value that all the bytes encode, or the refusal: too many bytes, or the first fault in them
 unfoldable pub input : {A : Type 0} → Codec A → List ℕ → Result A Refusal
 input codec bytes = if nat_lt most_bytes (length bytes) then Err refusal.TooLarge else read_of (whole codec bytes)
 
@@ -32,7 +32,7 @@ is_memory (refusal.NoAcknowledgement place) = false
 is_memory (refusal.Differ a b) = false
 is_memory refusal.NoRivals = false
 
--- memory was refused, or the answer is what is said
+-- the code's answer is the definition's; that memory was refused says nothing
 abbrev pub Answers : {A : Type 0} → Result A Refusal → Result A Refusal → Type 0
 Answers (Ok x) said = said ≡ Ok x
 Answers (Err e) said = is_memory e ≡ false → said ≡ Err e

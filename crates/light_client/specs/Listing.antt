@@ -1,4 +1,4 @@
--- The seals that bytes have, listed to be accepted or not. Source: this profile.
+-- The seals in bytes, listed with their statements for a caller that checks each seal itself. Source: this profile.
 use Rattle.std.specs.Prelude.{◌≡◌, ℕ, ◌+◌, List, [], ◌∷◌, ◌++◌, length, map, Result, Ok}
 use Rattle.wire_bcs.specs.Codec.{Codec}
 use Rattle.wire_bcs.specs.Shapes.{seq}
@@ -23,21 +23,21 @@ pub record Under : Type 0 where
   pub statement : List ℕ
   pub seals : List MemberSeal
 
--- the rows of seals on a statement that stands at this offset
+-- the row of a seal on a statement that stands at this offset
 abbrev pub row_at : ℕ → List ℕ → MemberSeal → SealRow
 row_at at statement s = record { at = at; length = length statement; member = s.member; seal = s.seal.0 }
 
--- the statements, one after the other
+-- the bytes of all statements, one after the other
 abbrev pub statements_in : List Under → List ℕ
 statements_in [] = []
 statements_in (u ∷ us) = u.statement ++ statements_in us
 
--- their seals, in order; the first statement stands at this offset
+-- the rows of all seals, in order; the first statement stands at this offset
 abbrev pub rows_from : ℕ → List Under → List SealRow
 rows_from at [] = []
 rows_from at (u ∷ us) = map (row_at at u.statement) u.seals ++ rows_from (at + length u.statement) us
 
--- ---- what seals a value has
+-- ---- the statements and seals of a value
 
 abbrev pub of_link : Link → Under
 of_link l = record { statement = stated l.checkpoint; seals = l.seals }
@@ -54,7 +54,7 @@ of_sealed s = record { statement = messages.statement.spell s.statement; seals =
 abbrev pub of_acknowledgements : List Sealed → List Under
 of_acknowledgements said = map of_sealed said
 
--- ---- the lists of bytes
+-- ---- listings
 
 abbrev pub listed : List Under → Listing
 listed us = record { rows = rows_from 0 us; statements = statements_in us }

@@ -85,7 +85,7 @@ fn place_of(
     None
 }
 
-/// The place of a row that names the seal, looked for from here on first.
+/// The place of a row that names the seal; the rows from `from` on are tried first, then those before.
 fn place_from(
     rows: &[SealRow],
     from: usize,

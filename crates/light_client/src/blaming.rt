@@ -13,7 +13,7 @@ use light_check::{DoubleVote, blame};
 use std::alloc::Global;
 use wire_bcs::OutOfMemory;
 
-/// Who is to blame for two certificates.
+/// Who is to blame for two decoded certificates; `NoRivals` if nobody is.
 #[tactic(auto, using(crate::proofs::Votes::tx_short))]
 fn blamed(alloc: Global, one: &Certificate, other: &Certificate) -> Result<DoubleVote, Refusal>
     requires one { codecs.certificate.short one.now }

@@ -1,4 +1,4 @@
-//! Certificates, from bytes.
+//! Checking a certificate, from bytes.
 
 ghost use Rattle.std.specs.Prelude.{◌≡◌, ℕ, IfOk, Ok};
 ghost use Rattle.chain_types.specs.Digests.{transaction_digest};
@@ -37,7 +37,7 @@ pub(crate) fn vote_bytes(
     encode_statement(alloc, &vote)
 }
 
-/// Why a certificate is not valid, as a call says it.
+/// The refusal of this crate for why a certificate is not valid.
 fn of_certificate(refusal: CertRefusal) -> Refusal
     ensures { result ≡ of_certificate refusal }
 {

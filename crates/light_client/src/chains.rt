@@ -1,4 +1,4 @@
-//! Chains of checkpoints, from bytes.
+//! Checking a chain of checkpoints, and finding a transaction in it, from bytes.
 
 ghost use Rattle.std.specs.Prelude.{◌≡◌, ℕ, IfOk, Ok};
 ghost use Rattle.checkpoint_core.specs.Checkpoints.{checkpoint as codec};
@@ -18,7 +18,7 @@ use quorum_core::{Checker, Committee, Sealer};
 use std::alloc::Global;
 use wire_bcs::{OutOfMemory, Seq};
 
-/// What the members state of a checkpoint, as it is sealed.
+/// The bytes that a member seals for a checkpoint: the encoding of its statement.
 #[tactic(auto, using(light_check::proofs::Shorts::stated_short))]
 pub(crate) fn stated(alloc: Global, checkpoint: &Checkpoint) -> Result<Seq<u8>, OutOfMemory>
     requires { codec.short checkpoint.now }
@@ -69,7 +69,8 @@ pub fn check_chain<C: Checker>(
     answer
 }
 
-/// Likewise under the seals of a sealer.
+/// How many links the chain that the bytes encode has, if the committee has certified it under the seals that this
+/// sealer accepts; refusals are those of [`check_chain`].
 pub fn check_chain_by<S: Sealer>(
     alloc: Global,
     bytes: &[u8],
@@ -82,7 +83,8 @@ pub fn check_chain_by<S: Sealer>(
     check_chain(alloc, bytes, committee, sealer)
 }
 
-/// Where the chain has the transaction.
+/// The number of the first checkpoint that lists the transaction, and the digest of its effects there; else
+/// `NotIncluded`.
 fn included(chain: &Chain, tx: &Digest) -> Result<(u64, Digest), Refusal>
     ensures { result ≡ included (found tx.now chain.now.links) }
 {

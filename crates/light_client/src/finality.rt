@@ -1,4 +1,4 @@
-//! What a quorum acknowledged, from bytes.
+//! Checking what a quorum acknowledged, from bytes.
 
 ghost use Rattle.std.specs.Prelude.{◌≡◌, ℕ, IfOk, Ok, map};
 ghost use Rattle.wire_bcs.specs.Shapes.{seq};
@@ -187,7 +187,8 @@ fn first_acknowledged(said: &[Sealed]) -> Option<Acknowledged>
     }
 }
 
-/// What all of them acknowledge, if nothing is wrong with them.
+/// What all statements acknowledge, if nothing is wrong with them; else what is wrong. An empty list has too little
+/// stake.
 fn acknowledged_or(
     why: Option<Refusal>,
     first: Option<Acknowledged>,
@@ -206,7 +207,7 @@ fn acknowledged_or(
     }
 }
 
-/// What all of them acknowledge, or why they show nothing.
+/// What all statements acknowledge, or why they show nothing.
 #[tactic(auto, using(crate::proofs::Final::all_short))]
 fn final_of<C: Checker>(
     alloc: Global,

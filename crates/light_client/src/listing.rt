@@ -1,4 +1,4 @@
-//! The seals that bytes have.
+//! Listing the seals in bytes, with their statements, for a caller that checks each seal itself.
 
 ghost use Rattle.std.specs.Prelude.{◌≡◌, ◌++◌, ◌∷◌, [], IfOk, Ok, OnOk, length, map};
 ghost use Rattle.wire_bcs.specs.Shapes.{seq};
@@ -20,7 +20,7 @@ use light_check::{Chain, Link};
 use std::alloc::Global;
 use wire_bcs::{OutOfMemory, Seq};
 
-/// Seals, each on a statement that stands among the bytes beside the rows.
+/// A list of seals: each row is a seal on a statement, which stands among the bytes of `statements`.
 #[derive(Debug, Drop)]
 pub struct Listing {
     pub rows: Seq<SealRow>,

@@ -66,7 +66,7 @@ module _ (r : Rules) where
       go (Ok x) e rest = taken x (is_allowed r m x) e rest
       go (Err fault) e rest = absurd (cc)
 
-  -- and what stands after it is read too
+  -- records after those from which a member starts are read too
   read-started : (kept more : List (List ℕ)) (m n : Member) (place : ℕ) → started_from r m place kept ≡ Ok n → records_read (kept ++ more) ≡ records_read kept ++ records_read more
   read-started [] more m n place e = refl
   read-started (bytes ∷ kept) more m n place e = go (read_record bytes) e (λ next q. read-started kept more next n (place + 1) q)

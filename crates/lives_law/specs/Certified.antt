@@ -23,12 +23,13 @@ module _ (r : Rules) (opening : List Object) (all : Members) where
   abbrev pub HaveLived : Type 0
   HaveLived = (m : ℕ) → all.faulty m ≡ false → AreLives r opening (all.first m) (all.lives m)
 
-  -- a member that is not faulty answered that vote in one of its lives, if its seal stands in the certificate
+  -- each member that is not faulty, and whose seal stands in the certificate, answered the certificate's vote in one
+  -- of its lives
   abbrev pub IsVotedFor : Certificate → Type 0
   IsVotedFor c = (m : ℕ) → all.faulty m ≡ false → is_among (members_of c) m ≡ true
       → (a : Answered) × Has (all_answered r opening (all.lives m)) a × IsVote r opening a c.tx.epoch (transaction_digest c.tx) c.origins
 
-  -- no other transaction that such a member has voted for has its digest
+  -- no member that is not faulty has voted for another transaction with the digest of this certificate's
   abbrev pub IsAlone : Certificate → Type 0
   IsAlone c = (m : ℕ) → all.faulty m ≡ false → (t : Transaction) (o : List (Option Digest)) → Has (last_records (all.first m) (all.lives m)) (record_as.Vote t o)
       → transaction_digest t ≡ transaction_digest c.tx → t ≡ c.tx
@@ -39,7 +40,8 @@ module _ (r : Rules) (opening : List Object) (all : Members) where
     pub voted_for : IsVotedFor c
     pub alone : IsAlone c
 
--- if less than a third of the stake is faulty, two of them of one epoch that consume one version are of one transaction
+-- if less than a third of the stake is faulty, two good certificates of one epoch that consume one version are of one
+-- transaction
 abbrev pub OneOwnerOverLives : Type 0
 OneOwnerOverLives = (r : Rules) (opening : List Object) (all : Members) → HaveLived r opening all → 3 * weight_of r.stakes all.faulty < total_of r.stakes
     → (c d : Certificate) → IsGood r opening all c → IsGood r opening all d → c.tx.epoch ≡ d.tx.epoch

@@ -39,11 +39,12 @@ records_of width m file = records_read (kept_of width m file)
 
 -- ---- the file that the next process finds
 
--- what reads give, if a process ended or was killed; any that a crash of the machine may leave then
+-- a file that may stand when a process is gone: what reads give if it ended or was killed, or any file that a crash of
+-- the machine may leave then
 abbrev pub IsLeft : History → List ℕ → Type 0
 IsLeft h file = (file ≡ h.now.reads) ⊎ IsImage h.now file
 
--- the disk of the next process: the same at the same moment, or one on which such a file is stable
+-- the disk that the next process finds: the same as it stood, or one on which such a file is stable
 abbrev pub Follows : History → History → Type 0
 Follows h next = (next ≡ h) ⊎ (IsLeft h next.now.reads × IsQuiet next)
 
@@ -76,25 +77,27 @@ IsReadable turns = Unit {0}
 IsReadable (acks tx) = Unit {0}
 
 module _ (r : Rules) (opening : List Object) (width m : ℕ) where
-  -- the member started from what the file has of it; in each file that is left then, that stands and the records of the
-  -- calls after it, and perhaps more
+  -- a process in which the member started: from what the file has of it; in each file that may be left, these records
+  -- stand, then those of the calls, and perhaps more
   pub record IsLifeOn (run : Run) : Type 0 where
     pub member : Member
     pub starts : started r opening (kept_of width m run.first.now.reads) ≡ Ok member
     pub leaves : (file : List ℕ) → IsLeft run.last file → IsFront (kept_of width m run.first.now.reads ++ spelled (dues r member run.calls)) (kept_of width m file)
     pub readable : Each IsReadable run.calls
 
-  -- no call was answered; in each file that is left then stands what a file had that was left before, and perhaps more
+  -- a process that answered no call: in each file that may be left stand the records of a file that was left before
+  -- it, and perhaps more
   pub record IsIdleOn (run : Run) : Type 0 where
     pub calls : run.calls ≡ []
     pub leaves : (file : List ℕ) → IsLeft run.last file → (old : List ℕ) × IsLeft run.first old × IsFront (kept_of width m old) (kept_of width m file)
 
-  -- processes one after the other on such a disk, and the file that the last of them leaves
+  -- processes one after the other on one disk, each from what the one before left, and a file that the last may leave
   abbrev pub AreRunsOn : History → List Run → List ℕ → Type 0
   AreRunsOn h [] file = IsLeft h file
   AreRunsOn h (run ∷ after) file = Follows h run.first × (IsLifeOn run ⊎ IsIdleOn run) × AreRunsOn run.last after file
 
-  -- what they answered are the calls of lives: the first of these finds the records in the file, and perhaps more
+  -- the calls that these processes answered are the calls of lives; the first life finds the records `first`, and
+  -- perhaps more
   pub record AreLivesOf (first : List Record) (ran : List Run) (file : List ℕ) : Type 0 where
     pub start : List Record
     pub lives : List Life

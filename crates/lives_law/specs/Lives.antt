@@ -32,7 +32,7 @@ pub record Answered : Type 0 where
 abbrev pub answered_at : List Record → Call → Answered
 answered_at before call = record { before = before; call = call }
 
--- a life that answered no call, and the records are those of before
+-- a life that answered no call and left the records as they were
 pub record IsUnlived (life : Life) : Type 0 where
   pub calls : life.calls ≡ []
   pub last : life.last ≡ life.start
@@ -44,7 +44,7 @@ last_records records (life ∷ lives) = last_records life.last lives
 
 -- ---- what stands in a file
 
--- the record of this vote, of a transaction with this epoch and digest
+-- among the records is one of a vote with these origins, for a transaction of this epoch and digest
 pub record IsKeptVote (records : List Record) (epoch : ℕ) (tx : Digest) (origins : List (Option Digest)) : Type 0 where
   pub transaction : Transaction
   pub stands : Has records (record_as.Vote transaction origins)
@@ -76,7 +76,7 @@ module _ (r : Rules) (opening : List Object) where
   abbrev pub records_behind : List Record → Call → List Record
   records_behind before call = appended before (due r (state r opening before) call)
 
-  -- and after these calls
+  -- the records after these calls, one after the other
   abbrev pub records_after : List Record → List Call → List Record
   records_after before [] = before
   records_after before (call ∷ calls) = records_after (records_behind before call) calls

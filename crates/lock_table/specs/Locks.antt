@@ -23,7 +23,7 @@ abbrev pub unless_own : ObjectKey → Digest → Option Digest → Option (Objec
 unless_own key tx None = None
 unless_own key tx (Some by) = if digest_eq by tx then None else Some (key, by)
 
--- the first of two
+-- the first lock, if there is one, else the second
 abbrev pub or_other : Option (ObjectKey × Digest) → Option (ObjectKey × Digest) → Option (ObjectKey × Digest)
 or_other None rest = rest
 or_other (Some lock) rest = Some lock

@@ -1,4 +1,4 @@
-//! The table.
+//! The lock table: which transaction each version is locked for.
 
 ghost use Rattle.std.specs.Prelude.{◌≡◌, ◌+◌, ◌<◌, ◌≤◌, [], length};
 ghost use Rattle.lock_table.specs.Locks.{locked_by, with_locks, other_lock};

@@ -27,7 +27,7 @@ has_form (mode.ByMut k) g = is_item g
 has_form (mode.ByRef k) g = is_item g
 has_form mode.Coins g = is_items g
 
--- one argument for each mode, of its form
+-- as many arguments as modes, each of the form that its mode takes
 abbrev pub have_forms : List Mode → List Given → Bool
 have_forms [] [] = true
 have_forms (m ∷ ms) (g ∷ gs) = has_form m g && have_forms ms gs

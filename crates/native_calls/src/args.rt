@@ -6,7 +6,7 @@ ghost use Rattle.native_calls.specs.Forms.{has_item};
 
 use protocol_spec::{Given, Item};
 
-/// The number at a place.
+/// The number at a place; 0 if something else stands there.
 pub(crate) fn number_at(args: &[Given], place: usize) -> u64
     ensures { result ≡ number_at args.now place }
 {
@@ -16,7 +16,7 @@ pub(crate) fn number_at(args: &[Given], place: usize) -> u64
     }
 }
 
-/// The object at a place.
+/// The object at a place, at which one stands.
 pub(crate) fn item_at(args: &[Given], place: usize) -> Item
     requires { IsTrue (has_item place args.now) }
     ensures { result ≡ item_at args.now place }
@@ -27,7 +27,7 @@ pub(crate) fn item_at(args: &[Given], place: usize) -> Item
     }
 }
 
-/// The list of objects at a place.
+/// The list of objects at a place; empty if something else stands there.
 pub(crate) fn items_at(args: &[Given], place: usize) -> &[Item]
     ensures { result.now ≡ items_at args.now place }
 {

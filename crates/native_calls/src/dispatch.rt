@@ -1,4 +1,4 @@
-//! The call of a native.
+//! Calling a native by its number.
 
 ghost use Rattle.std.specs.Prelude.{◌≡◌, ◌≤◌, ◌<◌, IfOk, IsTrue};
 ghost use Rattle.protocol_spec.specs.Block.Natives.{native_gives, parameters_of};

@@ -1,4 +1,4 @@
-//! What natives give.
+//! Results of natives: new objects, a changed object, an object with a new owner.
 
 ghost use Rattle.std.specs.Prelude.{◌≡◌, ◌+◌, ◌<◌, ◌^◌, ◌∷◌, [], IfOk};
 ghost use Rattle.protocol_spec.specs.Block.Natives.{new_item, gives, owned_by_all};
@@ -11,7 +11,7 @@ use protocol_spec::{Gave, Item, Placed};
 use std::alloc::Global;
 use wire_bcs::{OutOfMemory, Seq};
 
-/// A new object under the next number, or under the one so many after it.
+/// A new object under the next creation number, or under the one `ahead` (0 or 1) after it.
 pub(crate) fn new_item(place: &Place, ahead: u32, content: Content) -> Item
     requires { ahead < 2 }
     ensures { result ≡ new_item (site_of place.now) ahead content }
@@ -32,7 +32,7 @@ pub(crate) fn one(alloc: Global, item: Item) -> Result<Seq<Item>, OutOfMemory>
     Ok(items)
 }
 
-/// No result, and the object that was changed, if one was.
+/// The answer of a native with no result, and with the object that it changed, if it changed one.
 pub(crate) fn gives_nothing(alloc: Global, place: &Place, changed: Option<Item>) -> Gave
     ensures { result ≡ gives (site_of place.now) [] changed }
 {
@@ -44,7 +44,7 @@ pub(crate) fn gives_nothing(alloc: Global, place: &Place, changed: Option<Item>)
     }
 }
 
-/// One new object, and the object that was changed, if one was.
+/// The answer of a native with one new object as its result, and with the object that it changed, if it changed one.
 pub(crate) fn gives_new(
     alloc: Global,
     place: &Place,
@@ -61,7 +61,7 @@ pub(crate) fn gives_new(
     })
 }
 
-/// The object leaves the block to an owner.
+/// The answer of a native that gives an object to an owner outside the block.
 pub(crate) fn gives_owner(alloc: Global, place: &Place, item: Item, owner: Owner) -> Gave
     ensures { result ≡ owned_by_all (site_of place.now) item owner }
 {

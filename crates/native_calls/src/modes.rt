@@ -15,7 +15,7 @@ fn parameters_at(natives: &[Native], number: u8) -> &[Mode]
     }
 }
 
-/// The mode at a place.
+/// The mode at a place; none past the last parameter.
 fn at(modes: &[Mode], place: u16) -> Option<Mode>
     ensures { result ≡ slice_get modes.now place }
 {

@@ -1,4 +1,4 @@
--- What clauses see of the objects in memory. Source: this profile.
+-- What contracts see of the sources, sinks and keepers in memory. Source: this profile.
 use Rattle.std.specs.Prelude.{ℕ, ◌==◌, ◌&&◌, List, [], if◌then◌else◌}
 use Rattle.std.specs.List.{slice_index_or}
 use Rattle.outside.specs.declared.turns.Turns.{Turns}
@@ -17,7 +17,7 @@ pub record SinkState : Type 0 where
   pub turns : Turns
   pub faults : ℕ
 
--- a sink that takes only so many bytes of a piece: these, and what a sink has
+-- a sink that takes at most `most` bytes of a piece
 pub record NarrowState : Type 0 where
   pub held : List ℕ
   pub most : ℕ

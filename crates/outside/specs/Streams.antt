@@ -2,7 +2,7 @@
 use Rattle.std.specs.Prelude.{◌≡◌, ℕ, ◌+◌, ◌≤◌, List, ◌++◌, length, Option}
 use Rattle.std.specs.Io.KnownBytes.{Appends, Consumes, IsAtEnd}
 
--- observable bytes grew by what stands before the rest of the whole
+-- observable bytes grew by the whole without its `rest`
 abbrev pub Owes : Option (List ℕ) → Option (List ℕ) → List ℕ → List ℕ → Type 0
 Owes old new rest whole = (front : List ℕ) × (whole ≡ front ++ rest) × Appends old new front
 

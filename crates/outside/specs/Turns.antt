@@ -19,6 +19,7 @@ after_call turns = record turns { calls = next_number turns }
 abbrev pub faults_after : Turns → ℕ → ℕ
 faults_after turns faults = if fails_next turns then min (faults + 1) (2 ^ 64 - 1) else faults
 
--- likewise for a sink that takes only so many bytes of a piece: one that takes none counts each write
+-- `faults_after` for a sink that takes at most so many bytes of a piece: one that takes none counts a fault at each
+-- write
 abbrev pub narrow_faults_after : ℕ → Turns → ℕ → ℕ
 narrow_faults_after most turns faults = if most == 0 then min (faults + 1) (2 ^ 64 - 1) else faults_after turns faults

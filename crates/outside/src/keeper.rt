@@ -110,7 +110,7 @@ impl MemKeeper {
 }
 
 impl MemKeeper {
-    /// Where its lists take their memory.
+    /// The allocator that the lists take their memory from.
     pub(crate) fn allocator(&self) -> Global {
         *self.lists.allocator()
     }

@@ -5,8 +5,8 @@ ghost use Rattle.outside.specs.Turns.{after_call, fails_next};
 
 use wire_bcs::Seq;
 
-/// How many calls were made, and the numbers, from 1, of those that are to fail. The count stops
-/// at the greatest u64.
+/// Which calls of an object in memory fail, for tests: the numbers, from 1, of those that do, and how many calls were
+/// made so far. The count stops at the greatest u64.
 #[derive(Debug, Drop)]
 pub struct Turns {
     pub calls: u64,

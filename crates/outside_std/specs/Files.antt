@@ -2,7 +2,7 @@
 use Rattle.std.specs.Prelude.{ℕ}
 use Rattle.std.specs.declared.fs.attrs.Metadata.{Metadata}
 
--- what the system said of it when it was opened, its size, and its count of faults
+-- the metadata that the system gave when the file was opened, its size in bytes, and its count of faults
 pub record FileState : Type 0 where
   pub opened : Metadata
   pub extent : ℕ

@@ -44,8 +44,8 @@ pub enum Missing {
     IsRefused,
 }
 
-/// Opens a file for reads and writes. What is meant for a standard stream that was closed must not land in the file, so
-/// its number is above theirs.
+/// Opens a file for reads and writes, under a descriptor above those of the standard streams: if one of these was
+/// closed, what is meant for it must not land in the file.
 fn open_file(rt: &HostRuntime, path: &str, missing: Missing) -> io::Result<File> {
     let file = OpenOptions::new()
         .read(true)
@@ -74,7 +74,7 @@ fn is_named(rt: &HostRuntime, file: &File, path: &str) -> io::Result<bool> {
     Ok(opened.dev() == named.dev() && opened.ino() == named.ino())
 }
 
-/// What the system says of an open file, which is a plain one.
+/// The metadata of an open file; refused if it is not a plain file.
 fn plain(file: &File) -> Result<Metadata, OpenFault>
     ensures { IfOk result (λ said. IsFile (file_type said)) }
 {

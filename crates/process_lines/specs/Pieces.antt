@@ -1,4 +1,4 @@
--- What the pieces of an answer print. Source: this profile.
+-- The bytes of the pieces of an answer: digests, versions and numbers. Source: this profile.
 use Rattle.std.specs.Prelude.{ℕ, List, ◌∷◌, ◌++◌, decimal}
 use Rattle.hex.specs.Hex.{encode_lower}
 use Rattle.digest_core.specs.declared.Digest.{Digest}

@@ -9,7 +9,7 @@ use Rattle.process_lines.specs.declared.request.Request.TheVariants as request
 
 -- ---- words
 
--- bytes: an even number of hexadecimal digits in lower case, none too
+-- the bytes of an even number of hexadecimal digits in lower case; the empty word stands for no bytes
 unfoldable pub bytes_in : List ℕ → Option (List ℕ)
 bytes_in word = if is_hex word then hex_of word else None
 
@@ -35,7 +35,7 @@ request_of_one word =
     else (if bytes_eq word (codes "state") then Some request.State
     else None)))
 
--- that asks with bytes, or that a member runs
+-- the request of two words: what is asked, and bytes, a number, or a digest
 unfoldable pub request_of_two : List ℕ → List ℕ → Option Request
 request_of_two word text =
     if bytes_eq word (codes "vote") then option_map request.Vote (bytes_in text)

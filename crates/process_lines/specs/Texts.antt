@@ -58,18 +58,18 @@ wrong_epoch_text had want = concat (codes "refused wrong epoch had " ∷ decimal
 abbrev pub fork_text : ObjectKey → Digest → Digest → List ℕ
 fork_text key first second = concat (codes "fork " ∷ key_text key ∷ codes " " ∷ digest_text first ∷ codes " " ∷ digest_text second ∷ [])
 
--- a fault ends the process, and no line says it
+-- the text for a fault: none is ever written, since a fault ends the process
 abbrev pub fault_text : List ℕ
 fault_text = []
 
 abbrev pub digest_word : Digest → List ℕ
 digest_word d = concat (codes " " ∷ digest_text d ∷ [])
 
--- a space before each
+-- the digests in hexadecimal digits, each after a space
 unfoldable pub digests_text : List Digest → List ℕ
 digests_text digests = flat_map digest_word digests
 
--- a word and digests, if there are any
+-- a word and the digests after it; nothing if there are no digests
 abbrev pub part_text : List ℕ → List Digest → List ℕ
 part_text word [] = []
 part_text word (d ∷ ds) = word ++ digests_text (d ∷ ds)
@@ -77,7 +77,7 @@ part_text word (d ∷ ds) = word ++ digests_text (d ∷ ds)
 unfoldable pub built_one : Checkpoint → List ℕ
 built_one c = concat (codes " checkpoint " ∷ decimal c.number ∷ [])
 
--- the numbers of checkpoints that were built
+-- ` checkpoint N` for each checkpoint that was built
 unfoldable pub built_text : List Checkpoint → List ℕ
 built_text built = flat_map built_one built
 
@@ -107,7 +107,7 @@ vote_refusal_text no_vote.OutOfMemory = fault_text
 
 -- ---- certificates
 
--- the transaction that is held, or was held before
+-- `held` or, if it was held before, `again`; with the transaction if there is one
 unfoldable pub held_text : Bool → Option Digest → List ℕ
 held_text true None = codes "held"
 held_text true (Some tx) = concat (codes "held " ∷ digest_text tx ∷ [])
@@ -167,11 +167,11 @@ see_refusal_text no_see.OutOfMemory = fault_text
 
 -- ---- runs
 
--- what was executed, with the digest of its effects
+-- a transaction that was executed, and the digest of its effects
 abbrev pub executed_text : Effects → List ℕ
 executed_text e = concat (codes " " ∷ digest_text e.tx ∷ codes " " ∷ digest_text (effects_as.digest_of_effects e) ∷ [])
 
--- it does not fit, or this version is absent
+-- a transaction that was left: unfit, or with a version that is absent
 abbrev pub left_as : Digest → Option ObjectKey → List ℕ
 left_as tx None = concat (codes " left " ∷ digest_text tx ∷ codes " unfit" ∷ [])
 left_as tx (Some key) = concat (codes " left " ∷ digest_text tx ∷ codes " absent " ∷ key_text key ∷ [])
@@ -212,7 +212,7 @@ end_refusal_text no_end.NotClosed = codes "refused not closed"
 end_refusal_text (no_end.Waits tx) = concat (codes "refused waits " ∷ digest_text tx ∷ [])
 end_refusal_text no_end.OutOfMemory = fault_text
 
--- the epoch that begins, and what was undone
+-- `turned`, the epoch that begins, and the transactions that were undone
 unfoldable pub turned_text : ℕ → List Digest → List ℕ
 turned_text epoch undone = concat (codes "turned " ∷ decimal epoch ∷ codes " undone" ∷ []) ++ digests_text undone
 

@@ -1,4 +1,4 @@
-//! Checkpoints in answers.
+//! Printing checkpoints: their numbers in other answers, and the answers to `checkpoint`.
 
 ghost use Rattle.std.specs.Prelude.{◌≡◌, ◌++◌, OnOk};
 ghost use Rattle.std.specs.List.{flat_map};

@@ -11,13 +11,13 @@ use std::alloc::Global;
 use std::marker::Model;
 use wire_bcs::{OutOfMemory, Seq};
 
-/// The bytes that are asked for at once.
+/// The most bytes that the source is asked for at once.
 const PIECE: usize = 65_536;
 
-/// The bytes of a line at most, without its end.
+/// The most bytes of a line, without its end.
 const LONGEST_LINE: u64 = 4_194_304;
 
-/// What was read.
+/// The answer of a [`LineReader`].
 #[derive(Debug, Drop)]
 pub enum Got {
     /// A line, without its end.
@@ -47,7 +47,7 @@ impl Model for LineReader {
     ghost invariant = { λ r. (r.at ≤ length r.bytes) × (0 < length r.room.items) };
 }
 
-/// A line so far.
+/// The bytes of a line so far; of one that is too long they are not kept.
 #[derive(Drop)]
 struct Part {
     text: Seq<u8>,
@@ -69,7 +69,7 @@ impl Part {
         self.text.extend(bytes)
     }
 
-    /// The line.
+    /// The answer for the line that is read whole now.
     fn whole(self) -> Got
         ensures { result ≡ got_in self }
     {

@@ -208,7 +208,7 @@ fn request_of_three(
     Ok(None)
 }
 
-/// The parts between such bytes.
+/// The parts of the text between bytes of this value.
 fn parts_of(alloc: Global, byte: u8, text: &[u8]) -> Result<Vec<&[u8]>, OutOfMemory>
     ensures { IfOk result (λ v. map (λ x. x.now) v.items ≡ slice_split (λ b. b == byte) text.now) }
 {

@@ -1,4 +1,4 @@
-//! What a member's process is asked.
+//! The requests to a member's process.
 
 use digest_core::Digest;
 use wire_bcs::Seq;

@@ -28,7 +28,7 @@ pub(crate) fn print_digests(out: &mut Seq<u8>, digests: &[Digest]) -> Result<(),
     Ok(())
 }
 
-/// A word and digests, if there are any.
+/// Prints a word and the digests after it; nothing if there are no digests.
 fn print_part(out: &mut Seq<u8>, word: &[u8], digests: &[Digest]) -> Result<(), OutOfMemory>
     ensures { OnOk result (out.new ≡ out.old ++ part_text word.now digests.now) }
 {

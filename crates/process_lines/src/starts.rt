@@ -35,11 +35,11 @@ pub enum StartLine {
     NoMember {
         member: u32,
     },
-    /// The journal was not made, or not to its end.
+    /// The file is no journal: it was not made, or the making was cut off.
     NotMade,
     OtherMember,
     OtherGenesis,
-    /// The journal is to be made, and is there.
+    /// A journal was to be made, and the file has something already.
     NotEmpty,
     /// The first record from which the member does not start, counted from 0.
     BadRecord {
@@ -79,7 +79,7 @@ fn print_amounts(out: &mut Seq<u8>, checkpoints: u64, records: u64) -> Result<()
     )
 }
 
-/// Where a member starts from.
+/// Prints `ready`, the member, and the state that it starts from.
 fn print_ready(
     out: &mut Seq<u8>,
     member: u32,
@@ -94,7 +94,7 @@ fn print_ready(
     print_amounts(out, checkpoints, records)
 }
 
-/// Why the set-up is not a schedule.
+/// Prints why the set-up is not a schedule: the line and the cause.
 fn print_no_schedule(out: &mut Seq<u8>, line: u64, cause: u8) -> Result<(), OutOfMemory>
     ensures { OnOk result (out.new ≡ out.old ++ concat (codes "refused line " ∷ decimal line ∷ codes " cause " ∷ decimal cause ∷ [])) }
 {

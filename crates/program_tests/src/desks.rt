@@ -76,7 +76,7 @@ fn transfer(alloc: Global, number: u64, user: u8) -> Result<Seq<u8>, OutOfMemory
     joined(alloc, pieces.as_slice())
 }
 
-/// Likewise under her seal.
+/// The bytes of that transfer, under alice's seal.
 fn request(alloc: Global, number: u64, user: u8) -> Result<Seq<u8>, OutOfMemory> {
     let mut bytes = transfer(alloc, number, user)?;
     let seal = sealer().seal(&Signer::User(Digest(ALICE)), bytes.as_slice());
@@ -131,7 +131,8 @@ fn ask_by_two<W: Wait>(
     (one, two, desk.join(first, second))
 }
 
-/// Likewise, and how many calls the history has at the end.
+/// Asks by two passes, as [`ask_by_two`] does, and closes the desk: whether each vote is fresh, and how many calls the
+/// history has.
 fn ask_and_close<W: Wait>(
     rt: &W,
     desk: Desk<MemKeeper, KeyedSeal>,
@@ -148,7 +149,8 @@ fn ask_and_close<W: Wait>(
     (one, two, history.len())
 }
 
-/// Likewise at a desk whose member has a coin and is asked for a transfer of it.
+/// Asks by two passes at a desk whose member has a coin and is asked for a transfer of it: whether each vote is fresh,
+/// and how many calls the history has.
 fn asked_by_two<W: Wait>(rt: &W, alloc: Global) -> Option<(Option<bool>, Option<bool>, u64)> {
     let bytes = request(alloc, 0, 2).ok()?;
     let keeper = MemKeeper::new(alloc, 1, [].as_slice()).ok()?;

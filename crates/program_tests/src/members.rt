@@ -35,7 +35,7 @@ fn started_from(
     Validator::start(alloc, 0, &committee, opening, None, kept, &sealer())
 }
 
-/// The same over the objects of set-up lines.
+/// Member 0 over the objects of set-up lines, from at most 64 records.
 fn started_over(
     alloc: Global,
     setup: &Seq<Setup>,
@@ -50,7 +50,8 @@ fn started_over(
     started_from(alloc, &opening, kept)
 }
 
-/// Likewise for the set-up that a text is. A text that is not a set-up starts no member, as if memory were refused.
+/// Member 0 over the set-up that a text is, from at most 64 records. A text that is not a set-up starts no member, as
+/// if memory were refused.
 pub(crate) fn started(
     alloc: Global,
     text: &str,

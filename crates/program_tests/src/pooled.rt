@@ -27,7 +27,7 @@ bd99f82a2164c99dfbca6b39d0070000000000000100204e7030e3beadedd34c6d94354b55086f5e
 a4947768da0101010001000001000100000000a850e1bcc4e98703a09e5f6a85f145a8e6d784c070cf18b73619d7340a8f7e\
 73";
 
-/// That of a transfer of g1.
+/// The certificate of a transfer of g1 to bob.
 const SECOND: &str =
     "00000000000000008664e69e5d6097e16cbe321bca1759cc2f4e908a4045089a58592cfd335e41f0149f36fc3da79e5c2dae\
 7bee0159e895a6f55337c617168971bad72176bd10040100000000000000ced9e277c301dee218a21317f273a08f9689b2e6\
@@ -43,13 +43,13 @@ bd99f82a2164c99dfbca6b39d0070000000000000200080a0000000000000003c0e825e1a8acf28e
 d74be998093115ae8587c81f330a0100000000000000010100050201010001000002000001000000006bdae899d2f93f1525\
 d9cc153f9ca19ebb01d18ef0677660333af4907c7d948c";
 
-/// Its digest.
+/// The digest of the transaction of `ADD_TEN`.
 const ADD_TEN_DIGEST: [u8; 32] = [
     208, 168, 11, 209, 71, 103, 180, 236, 117, 183, 120, 169, 7, 123, 41, 10, 104, 208, 109, 116,
     5, 254, 16, 235, 222, 92, 3, 190, 155, 233, 119, 47,
 ];
 
-/// That of one that pays with g1 and requires 16 of it.
+/// The certificate of a transaction that pays with g1 and requires 16 of the counter.
 const LOOK: &str =
     "00000000000000008664e69e5d6097e16cbe321bca1759cc2f4e908a4045089a58592cfd335e41f0149f36fc3da79e5c2dae\
 7bee0159e895a6f55337c617168971bad72176bd10040100000000000000ced9e277c301dee218a21317f273a08f9689b2e6\
@@ -57,13 +57,13 @@ const LOOK: &str =
 d74be998093115ae8587c81f330a01000000000000000001000602010100010000020000010000000015d0944a40dcc051c6\
 dcf3b0de41a0b1ece8d7d40948ece9b8ccebaffbf1483b";
 
-/// Its digest.
+/// The digest of the transaction of `LOOK`.
 const LOOK_DIGEST: [u8; 32] = [
     220, 145, 228, 46, 6, 246, 181, 130, 47, 249, 159, 220, 242, 154, 245, 227, 47, 101, 54, 28,
     216, 159, 152, 216, 27, 225, 33, 201, 46, 10, 234, 190,
 ];
 
-/// That of one that pays with g2 and adds 1 to it.
+/// The certificate of a transaction that pays with g2 and adds 1 to the counter.
 const ADD_ONE: &str =
     "00000000000000008664e69e5d6097e16cbe321bca1759cc2f4e908a4045089a58592cfd335e41f085c6496e7cc34c00c45a\
 df9f63574aad691e7933ba6498d043cebd9f49c4d2780100000000000000ae4b19cf918b6181f25e9492311e40dc4497287b\
@@ -71,16 +71,16 @@ fd25ea1e256201c13d547c9ed007000000000000020008010000000000000003c0e825e1a8acf28e
 d74be998093115ae8587c81f330a010000000000000001010005020101000100000200000100000000fbade1962bd124e809\
 252b5af869510f383be236d8349fceb81a565cce90e3e3";
 
-/// Its digest.
+/// The digest of the transaction of `ADD_ONE`.
 const ADD_ONE_DIGEST: [u8; 32] = [
     198, 67, 16, 94, 252, 26, 162, 104, 110, 162, 243, 214, 161, 9, 234, 163, 233, 106, 253, 96,
     31, 142, 104, 33, 161, 10, 168, 12, 206, 74, 80, 222,
 ];
 
-/// What stands in a record before a certificate that is held.
+/// The bytes before the certificate in the record of one that is newly held.
 const HELD: &[u8] = &[1];
 
-/// And before one that came as an entry of 224 bytes.
+/// The bytes before the certificate in the record of an entry of 224 bytes that orders it.
 const SEEN: &[u8] = &[2, 224, 1, 0];
 
 /// The outcome of a transaction: its digest, the status of its effects, their version and the gas.
@@ -117,7 +117,8 @@ fn runs<R: Threads + Sync, G: Gate + Sync>(
     }
 }
 
-/// The same by a member that has these records: what stands before it, and a certificate.
+/// The outcomes of what a run by this many workers executes at a member that starts from these records, each given as
+/// the bytes before a certificate and the certificate.
 fn runs_from<R: Threads + Sync, G: Gate + Sync>(
     rt: &R,
     alloc: Global,

@@ -30,7 +30,7 @@ const TWO_LINES: &str = "tx t1: made\nvote 0 t1: voted -\n";
 const RESTART: &str = "member 1 honest\ncoin g0 alice 10000\n\
 tx t1 alice 0 g0@1 2000 a:bob transfer(gas,i0)\nvote 0 t1\nrestart 0\n";
 
-/// The same among four members, with another transaction.
+/// A member votes and starts again, among four members and with another transaction.
 const FOUR_RESTART: &str =
     "member 1 honest\nmember 1 honest\nmember 1 honest\nmember 1 honest\ncoin g0 alice 10000\n\
 tx t1 alice 0 g0@1 2000 n:500 a:bob split(gas,i0) transfer(r0,i1)\nvote 0 t1\nrestart 0\n";
@@ -120,7 +120,8 @@ fn run_altered<R: Threads + Wait + Sync>(
     ended
 }
 
-/// The same: the record is bad.
+/// Runs a text over a keeper that gives these bytes in place of the first record of member 0, and expects that the
+/// record is bad.
 fn expect_bad<R: Abort + Threads + Wait + Sync>(
     rt: &R,
     alloc: Global,

@@ -44,7 +44,7 @@ const SEAL: [u8; 32] = [
 /// The record of its run.
 const RAN: [&[u8]; 3] = [&[6, 1], &TX, &EFFECTS];
 
-/// The same in the older form, which names only the transaction.
+/// The record of that run in the older form, which names only the transaction.
 const OLDER: [&[u8]; 3] = [&[4, 1], &TX, &[]];
 
 /// The records of the certificate, and of its run.
@@ -96,7 +96,7 @@ fn sees_mark(member: &mut Validator, keeper: &mut MemKeeper) -> Option<(SeeRefus
     Some((refusal, keeper.count(0)))
 }
 
-/// That of a new member.
+/// The refusal of a new member that is handed the mark as entry 1, and how many records are kept then.
 fn sees_out_of_order(alloc: Global) -> Option<(SeeRefusal, u64)> {
     let mut keeper = MemKeeper::new(alloc, 1, [].as_slice()).ok()?;
     let mut member = member_from(alloc, SETUP, &Seq::new(alloc))?;

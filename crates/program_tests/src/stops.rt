@@ -92,7 +92,7 @@ const LOST_ROWS: [Row; 16] = [
     (Call::Record, 2, 0, 7),
 ];
 
-/// The same with the record kept.
+/// The schedule of the lost vote with its record kept: the vote for t2 is refused after the restart.
 const KEPT: &str =
     "member 1 honest\nmember 1 honest\nmember 1 honest\nmember 1 honest\ncoin g0 alice 10000\n\
 tx t1 alice 0 g0@1 2000 n:500 a:bob split(gas,i0) transfer(r0,i1)\n\

@@ -23,7 +23,7 @@ tx t1 alice 0 g0@1 2000 a:bob transfer(gas,i0)\nvote 0 t1\ncert t1 0\nsend 0 t1\
 const STOPPED: &str = "member 1 honest\ncoin g0 alice 10000\n\
 tx t1 alice 0 g0@1 2000 a:bob transfer(gas,i0)\nstop 0 kept\nvote 0 t1\n";
 
-/// The same, started again.
+/// A member that stops at the record of its vote, and is started again.
 const RESTARTED: &str = "member 1 honest\ncoin g0 alice 10000\n\
 tx t1 alice 0 g0@1 2000 a:bob transfer(gas,i0)\nstop 0 kept\nvote 0 t1\nrestart 0\n";
 
@@ -107,7 +107,7 @@ fn holding(objects: u64, sum: u128) -> Option<Sums> {
     })
 }
 
-/// Those of a faulty member and of one that is not there are not said, nor those of a member that is down.
+/// The sums of a faulty member, of one that is not there and of one that is down are not told.
 #[test]
 fn sums_are_those_of_honest_members_that_are_up(rt: HostRuntime) {
     let seal = Some(Digest(SEAL));

@@ -68,7 +68,7 @@ pub enum SeenWhat {
         member: u32,
         weight: u64,
     },
-    /// Likewise, and the epoch ends here.
+    /// A member's End was counted, and the Ends are a quorum with it: the epoch ends here. Their weight.
     Ended {
         member: u32,
         weight: u64,

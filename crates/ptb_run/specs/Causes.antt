@@ -1,4 +1,5 @@
--- The causes of the arguments of a command, if it is known which places earlier ones name.
+-- The causes of a command's arguments as the code finds them, with the places that earlier arguments name kept on the
+-- way.
 use Rattle.std.specs.Prelude.{ℕ, ◌+◌, Bool, not, ◌&&◌, take, List, [], ◌∷◌, ◌++◌, Option, Some, None, if◌then◌else◌}
 use Rattle.std.specs.List.{list_any}
 use Rattle.chain_types.specs.declared.transactions.Command.{Command}
@@ -28,7 +29,7 @@ number_of_cause cause.OtherCurrency = 10
 number_of_cause cause.WrongCount = 11
 number_of_cause cause.Unused = 12
 
--- the causes that concern the value, if it is known whether an earlier argument names its place
+-- the causes 3 to 7; `named` says whether an earlier argument of the command names the place
 abbrev pub named_cases : Transaction → Command → Bool → Place → Need → Value → List (Option Cause)
 named_cases t c named p need value =
     where_true (is_bad_pure need value) cause.BadPure ∷
@@ -54,7 +55,7 @@ is_seen seen spot = list_any (λ other. spot_eq spot other) seen
 abbrev pub noted : List Spot → Spot → List Spot
 noted seen spot = if is_seen seen spot then seen else seen ++ spot ∷ []
 
--- the first cause of these arguments, after those whose places were seen
+-- the first cause of these arguments, if the earlier ones name the places in `seen`
 abbrev pub causes_after : Transaction → Block → Command → List Spot → List Wanted → Option Cause
 causes_after t b c seen [] = None
 causes_after t b c seen (w ∷ rest) =
@@ -63,7 +64,7 @@ causes_after t b c seen (w ∷ rest) =
 abbrev pub is_named : List Wanted → Spot → Bool
 is_named earlier spot = list_any (λ (w : Wanted). spot_eq spot (spot_at w.argument)) earlier
 
--- the first cause of those of the arguments that are left from this place on
+-- the first cause of the arguments from this place on: each is compared with all before it in the whole list
 abbrev pub causes_at : Transaction → Block → Command → List Wanted → ℕ → List Wanted → Option Cause
 causes_at t b c whole place [] = None
 causes_at t b c whole place (w ∷ rest) =

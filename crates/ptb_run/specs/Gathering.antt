@@ -1,4 +1,4 @@
--- What is gathered from the places of arguments, one after the other.
+-- Loops that collect the objects, or the numbers, in the places of arguments.
 use Rattle.std.specs.Prelude.{ℕ, List, [], ◌∷◌, ◌++◌, Option, Some, None}
 use Rattle.chain_types.specs.declared.transactions.Argument.{Argument}
 use Rattle.protocol_spec.specs.declared.pieces.Item.{Item}

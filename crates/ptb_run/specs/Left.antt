@@ -18,7 +18,7 @@ Left = List (ObjectId × Placed)
 abbrev pub with_first : Left → Placed → Left
 with_first left p = if is_some (lookup (id_eq p.item.id) left) then left else left ++ (p.item.id, p) ∷ []
 
--- the first of each id in the prefix, and then in these
+-- the map, and after it the first object of each id that it lacks
 abbrev pub firsts_after : Left → List Placed → Left
 firsts_after left [] = left
 firsts_after left (p ∷ rest) = firsts_after (with_first left p) rest

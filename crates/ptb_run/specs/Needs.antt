@@ -1,4 +1,4 @@
--- How commands take arguments, as the definitions have it.
+-- The code's `Need` as the definition's, and the loops that pair arguments with needs.
 use Rattle.std.specs.Prelude.{ℕ, ◌+◌, Bool, true, false, List, [], ◌∷◌, ◌++◌, Option, Some, None}
 use Rattle.chain_types.specs.declared.objects.Kind.{Kind}
 use Rattle.chain_types.specs.declared.transactions.Argument.{Argument}
@@ -34,7 +34,7 @@ is_item_right (commands.by_mut wanted) k = kind_eq k wanted
 is_item_right (commands.by_ref wanted) k = kind_eq k wanted
 is_item_right commands.coins k = false
 
--- how a mode takes an argument, in the code's own words
+-- the code's need for a native's mode
 abbrev pub need_now : Mode → Need
 need_now modes.Number = needs.Number
 need_now (modes.ByValue k) = needs.ByValue k
@@ -42,12 +42,12 @@ need_now (modes.ByMut k) = needs.ByMut k
 need_now (modes.ByRef k) = needs.ByRef k
 need_now modes.Coins = needs.Coins
 
--- the arguments that were collected, and after them these, all taken in one way
+-- the list so far, and after it these arguments, all with one need
 abbrev pub all_after : List Wanted → Need → List Argument → List Wanted
 all_after wanted need [] = wanted
 all_after wanted need (a ∷ rest) = all_after (wanted ++ record { argument = a; need = need } ∷ []) need rest
 
--- the arguments that were collected, and after them these with the modes from this place on
+-- one step: the argument joins the list with the need of its mode, and `next` goes on; without a mode the list ends
 abbrev pub pair_then : List Wanted → Argument → (List Wanted → List Wanted) → Option Mode → List Wanted
 pair_then wanted a next None = wanted
 pair_then wanted a next (Some m) = next (wanted ++ record { argument = a; need = need_now m } ∷ [])

@@ -7,7 +7,7 @@ use Rattle.protocol_spec.specs.Block.Execution.{item_of}
 use Rattle.ptb_run.specs.declared.value.Value.{Value}
 use Rattle.ptb_run.specs.declared.value.Value.TheVariants as values
 
--- the places that were filled, and after them those of these inputs
+-- the places so far, and after them those of these inputs, whose objects are `os` in order
 abbrev pub cells_after : List (Option Value) → List Input → List Object → List (Option Value)
 cells_after cells [] os = cells
 cells_after cells (inputs.Pure bytes ∷ is) os = cells_after (cells ++ Some (values.Pure bytes) ∷ []) is os

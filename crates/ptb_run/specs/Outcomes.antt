@@ -1,4 +1,4 @@
--- What a step of the code answered against what the definition says.
+-- How the results of commands in code relate to the definition's.
 use Rattle.std.specs.Prelude.{◌≡◌, ℕ, Bool, nat_lt, length, Result, Ok, Err}
 use Rattle.protocol_spec.specs.Block.Block.{Block}
 use Rattle.protocol_spec.specs.Block.Commands as commands
@@ -17,19 +17,20 @@ abbrev pub fault_of : Fault → commands.Fault
 fault_of (faults.Cause k) = commands.cause (number_of_cause k)
 fault_of (faults.Abort n) = commands.abort n
 
--- memory was refused, or the block is now as is said, or the fault is the one that is said
+-- one command: the block is now the definition's, or the fault is its fault; if memory was refused nothing is said
 abbrev pub Steps : {X : Type 0} → Result X Halt → Result Block commands.Fault → Block → Type 0
 Steps (Ok x) says b = says ≡ Ok b
 Steps (Err (halt.Fault fault)) says b = says ≡ Err (fault_of fault)
 Steps (Err halt.OutOfMemory) says b = Unit {0}
 
--- likewise for one command, by its number
+-- `Steps` for a fault with the number of its command
 abbrev pub StepsAt : {X : Type 0} → Result X Failed → ℕ → Result Block commands.Fault → Block → Type 0
 StepsAt (Ok x) number says b = says ≡ Ok b
 StepsAt (Err (failed.At command fault)) number says b = (command ≡ number) × (says ≡ Err (fault_of fault))
 StepsAt (Err failed.OutOfMemory) number says b = Unit {0}
 
--- likewise for all commands
+-- all commands of a block: the block is now the definition's, or the failure is its failure; if memory was refused
+-- nothing is said
 abbrev pub Runs : {X : Type 0} → Result X Failed → Result Block Failure → Block → Type 0
 Runs (Ok x) says b = says ≡ Ok b
 Runs (Err (failed.At command fault)) says b = says ≡ Err (command, fault_of fault)

@@ -1,4 +1,4 @@
--- The objects that a block leaves, gathered one after the other.
+-- Loops that collect what a block leaves: written objects, deleted ids, created objects, and the list in the effects.
 use Rattle.std.specs.Prelude.{ℕ, zero, suc, List, [], ◌∷◌, ◌++◌, Option, Some, None}
 use Rattle.digest_core.specs.declared.Digest.{Digest}
 use Rattle.digest_core.specs.Tagged.{created_id_of}
@@ -26,7 +26,7 @@ abbrev pub gone_after : ℕ → Left → Block → List ObjectId → List Moved 
 gone_after version left b ids [] = ids
 gone_after version left b ids (m ∷ rest) = gone_after version left b (with_gone ids m.object.id (moved_now version left b m)) rest
 
--- those of the ids drawn before this number
+-- the created objects with a creation number below this one, by number: those that left the block
 abbrev pub created_below : Digest → ℕ → Left → ℕ → List Object
 created_below tx version left zero = []
 created_below tx version left (suc n) = with_object (created_below tx version left n) (object_left version left (record { 0 = created_id_of tx n }))

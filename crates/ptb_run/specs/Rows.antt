@@ -1,4 +1,4 @@
--- What is added one after the other: results of commands, and objects that leave the block.
+-- Loops that add a command's results, and objects that leave the block.
 use Rattle.std.specs.Prelude.{ℕ, ◌+◌, List, [], ◌∷◌, ◌++◌, Option, Some, None, true}
 use Rattle.digest_core.specs.declared.Digest.{Digest}
 use Rattle.digest_core.specs.Tagged.{created_id_of}
@@ -12,7 +12,7 @@ use Rattle.protocol_spec.specs.Block.Commands.{piece_of, place_of}
 use Rattle.ptb_run.specs.declared.value.Value.{Value}
 use Rattle.ptb_run.specs.declared.value.Value.TheVariants as values
 
--- the new coin of this amount, this many after the next number
+-- the new coin of this amount: its creation number is k after the next one, `made`
 abbrev pub new_coin : Digest → ℕ → ℕ → ℕ → ℕ → Item
 new_coin tx made currency k amount = record { id = record { 0 = created_id_of tx (made + k) }; content = content.Coin currency amount; fresh = true }
 

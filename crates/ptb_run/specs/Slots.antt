@@ -1,4 +1,4 @@
--- The places of the code in one list, as the definition of a block has them.
+-- The code keeps the gas coin, the inputs and the results apart; here they are the definition's one list of places.
 use Rattle.std.specs.Prelude.{ℕ, Bool, is_some, ◌+◌, List, [], ◌∷◌, ◌++◌, slice_get, Option, Some, None}
 use Rattle.std.specs.List.{list_any}
 use Rattle.std.specs.Borrow.{Bor}
@@ -33,7 +33,7 @@ joined (Some v) = held v
 abbrev pub cell_of : List (Option Value) → ℕ → Option block.Value
 cell_of row n = joined (slice_get row n)
 
--- a value that is lent
+-- a value that the code has lent, as the definition's
 abbrev pub seen : Option (Bor Value) → Option block.Value
 seen None = None
 seen (Some v) = Some (value_of v.now)

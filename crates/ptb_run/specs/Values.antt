@@ -23,7 +23,7 @@ value_of (values.Vector kind items) = block.vector kind items
 abbrev pub held : Option Value → Option block.Value
 held v = option_map value_of v
 
--- where the value of an argument lies, in the code's own words
+-- where the value of an argument lies, as the code says it
 abbrev pub spot_at : Argument → Spot
 spot_at argument.Gas = spots.Gas
 spot_at (argument.Input n) = spots.Input n

@@ -15,7 +15,7 @@ moved_of m = (spot_of m.spot, m.object)
 abbrev pub with_written : Input → ℕ → Object → List Moved → List Moved
 with_written i n o moved = if is_written i then moved ++ record { spot = spots.Input n; object = o } ∷ [] else moved
 
--- what was found, and after it what is written of these inputs, from this number on
+-- the list so far, and after it the written objects of these inputs, the first of which has this number
 abbrev pub moved_after : List Moved → ℕ → List Input → List Object → List Moved
 moved_after moved n [] os = moved
 moved_after moved n (inputs.Pure bytes ∷ is) os = moved_after moved (n + 1) is os

@@ -22,8 +22,8 @@ use protocol_spec::{Given, Item, Placed};
 use std::alloc::Global;
 use wire_bcs::{OutOfMemory, Seq};
 
-/// The places, the objects that left the block to an owner, the number of the next creation, and the ids that were
-/// drawn.
+/// A block between two commands: its places, the objects that left it to an owner, the next creation number, and the
+/// ids that it drew so far.
 #[derive(Debug, Drop)]
 pub(crate) struct Block {
     pub(crate) slots: Slots,
@@ -33,7 +33,7 @@ pub(crate) struct Block {
 }
 
 impl Block {
-    /// Whether an argument names a result that there is not.
+    /// Whether an argument names a result that does not exist (cause 2).
     #[tactic(auto, unfolding(crate::specs::Blocks::block_of))]
     pub(crate) fn has_no_result(&self, argument: &Argument) -> bool
         ensures { result ≡ has_no_result (block_of self.now) argument.now }
@@ -90,7 +90,7 @@ impl Block {
         }
     }
 
-    /// The objects in the places of arguments, gathered one after the other.
+    /// The loop of [`Block::items_in`].
     fn gather(&self, alloc: Global, args: &[Argument]) -> Result<Seq<Item>, OutOfMemory>
         ensures { IfOk result (λ items. items ≡ items_after (block_of self.now) [] args.now) }
     {
@@ -117,7 +117,7 @@ impl Block {
         self.gather(alloc, args)
     }
 
-    /// The numbers that the bytes in the places of arguments encode, gathered one after the other.
+    /// The loop of [`Block::numbers_in`].
     fn gather_numbers(&self, alloc: Global, args: &[Argument]) -> Result<Seq<u64>, OutOfMemory>
         requires { list_all (is_taken (block_of self.now)) (all_by commands.number args.now) ≡ true }
         ensures { IfOk result (λ numbers. numbers ≡ numbers_after (block_of self.now) [] args.now) }
@@ -192,7 +192,7 @@ impl Block {
         }
     }
 
-    /// An object leaves the block to an owner, if there is one that does.
+    /// Notes that an object left the block to an owner, if one did.
     #[tactic(auto, unfolding(crate::specs::Blocks::block_of, crate::specs::Blocks::rows_of), using(crate::proofs::Leaving::none_leaves))]
     pub(crate) fn leave(&mut self, placed: Option<Placed>) -> Result<(), OutOfMemory>
         ensures after { OnOk result (block_of self.new ≡ record (block_of self.old) { placed = (block_of self.old).placed ++ placed_list placed }) }
@@ -220,7 +220,7 @@ impl Block {
         self.made
     }
 
-    /// The number of the next creation is now this one.
+    /// Sets the next creation number.
     #[tactic(auto, unfolding(crate::specs::Blocks::block_of, crate::specs::Blocks::rows_of))]
     pub(crate) fn set_made(&mut self, made: u32)
         ensures after { block_of self.new ≡ record (block_of self.old) { made = made } }
@@ -229,7 +229,7 @@ impl Block {
         self.made = made;
     }
 
-    /// The number of the next creation is now this one, after a native that gave these results.
+    /// Sets the next creation number after a native that gave these results, and keeps their ids.
     #[tactic(auto, unfolding(crate::specs::Blocks::block_of, crate::specs::Blocks::rows_of))]
     pub(crate) fn draw_results(
         &mut self,
@@ -248,7 +248,7 @@ impl Block {
         Ok(())
     }
 
-    /// The objects in the places of arguments leave the block to an owner, one after the other.
+    /// The loop of [`Block::place_all`].
     #[tactic(auto, unfolding(crate::specs::Blocks::block_of, crate::specs::Blocks::rows_of))]
     fn place_each(&mut self, owner: Owner, args: &[Argument]) -> Result<(), OutOfMemory>
         ensures after { OnOk result (block_of self.new ≡ record (block_of self.old) { placed = placed_after (block_of self.old).slots (block_of self.old).placed owner args.now }) }

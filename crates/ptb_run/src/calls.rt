@@ -24,7 +24,7 @@ use protocol_spec::{Gave, Given, Item, Placed};
 use std::alloc::Global;
 use wire_bcs::{OutOfMemory, Seq};
 
-/// An argument as the native takes it.
+/// What a native is given for an argument: a number, an object or a list of objects.
 #[tactic(auto, using(crate::proofs::Given::given_by_value, crate::proofs::Given::given_by_mut, crate::proofs::Given::given_by_ref, crate::proofs::Given::given_coins))]
 fn given(alloc: Global, block: &Block, wanted: &Wanted) -> Result<Given, OutOfMemory>
     requires { is_taken (block_of block.now) (wanted_of wanted.now) ≡ true }
@@ -40,7 +40,7 @@ fn given(alloc: Global, block: &Block, wanted: &Wanted) -> Result<Given, OutOfMe
     }
 }
 
-/// The arguments as the native takes them, one after the other.
+/// The loop of [`give_all`].
 fn give_each(alloc: Global, block: &Block, wanted: &[Wanted]) -> Result<Seq<Given>, OutOfMemory>
     requires { list_all (is_taken (block_of block.now)) (map wanted_of wanted.now) ≡ true }
     ensures { IfOk result (λ givens. givens ≡ givens_after (block_of block.now) [] wanted.now) }
@@ -54,7 +54,7 @@ fn give_each(alloc: Global, block: &Block, wanted: &[Wanted]) -> Result<Seq<Give
     Ok(givens)
 }
 
-/// The arguments as the native takes them.
+/// What a native is given for its arguments, in order.
 #[tactic(auto, using(crate::proofs::Given::givens_are))]
 fn give_all(alloc: Global, block: &Block, wanted: &[Wanted]) -> Result<Seq<Given>, OutOfMemory>
     requires { list_all (is_taken (block_of block.now)) (map wanted_of wanted.now) ≡ true }
@@ -63,7 +63,7 @@ fn give_all(alloc: Global, block: &Block, wanted: &[Wanted]) -> Result<Seq<Given
     give_each(alloc, block, wanted)
 }
 
-/// What goes by value is spent.
+/// Spends the place of an argument that is taken by value.
 fn spend_one(block: &mut Block, wanted: &Wanted)
     ensures after { block_of block.new ≡ (if commands.takes_value (need_meant wanted.now.need) then commands.spend wanted.now.argument (block_of block.old) else block_of block.old) }
     ensures rows { rows_of block.new ≡ rows_of block.old }
@@ -73,7 +73,7 @@ fn spend_one(block: &mut Block, wanted: &Wanted)
     }
 }
 
-/// All that goes by value is spent.
+/// Spends the places of all arguments that are taken by value.
 fn spend_taken(block: &mut Block, wanted: &[Wanted])
     ensures after { block_of block.new ≡ commands.spend_taken (map wanted_of wanted.now) (block_of block.old) }
     ensures rows { rows_of block.new ≡ rows_of block.old }
@@ -85,7 +85,7 @@ fn spend_taken(block: &mut Block, wanted: &[Wanted])
     }
 }
 
-/// What the native changed is put back into the place of its first argument.
+/// Puts the object that a native changed back into the place of its first argument.
 fn put_changed(block: &mut Block, wanted: &[Wanted], changed: Option<Item>)
     ensures after { block_of block.new ≡ commands.put_changed (map wanted_of wanted.now) changed (block_of block.old) }
     ensures rows { rows_of block.new ≡ rows_of block.old }
@@ -97,7 +97,7 @@ fn put_changed(block: &mut Block, wanted: &[Wanted], changed: Option<Item>)
     }
 }
 
-/// A row of objects.
+/// The results of a native as a row of places.
 fn items_row(alloc: Global, items: &[Item]) -> Result<Seq<Option<Value>>, OutOfMemory>
     ensures { IfOk result (λ row. row ≡ items_row_after [] items.now) }
 {
@@ -110,7 +110,7 @@ fn items_row(alloc: Global, items: &[Item]) -> Result<Seq<Option<Value>>, OutOfM
     Ok(row)
 }
 
-/// What a native gave comes into the block.
+/// Takes what a native gave into the block: spends, puts back, notes what left and adds the results.
 fn take_in(
     alloc: Global,
     block: &mut Block,

@@ -30,7 +30,7 @@ fn is_transfer(command: &Command) -> bool
     }
 }
 
-/// Whether the input of this number is not the sender's.
+/// Whether the input of this number is immutable or shared, and so cannot be taken by value.
 fn is_common(tx: &Transaction, number: u16) -> bool
     ensures { result ≡ is_common (slice_get tx.now.inputs number) }
 {
@@ -174,7 +174,7 @@ fn is_named(earlier: &[Wanted], spot: Spot) -> bool
     false
 }
 
-/// The same of few arguments, each of which is compared with those before it: a set of their places costs more.
+/// [`first_cause`] for few arguments: each is compared with those before it, which costs less than a set of places.
 fn first_cause_of_few(
     block: &Block,
     tx: &Transaction,

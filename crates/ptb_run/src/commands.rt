@@ -97,14 +97,14 @@ fn new_coins(
     Ok(row)
 }
 
-/// Where a block writes: its transaction, and the version.
+/// What new objects of a block are made with: the transaction's digest, and the version at which it writes.
 #[derive(Clone, Copy, Debug)]
 pub(crate) struct Site {
     pub(crate) tx: Digest,
     pub(crate) version: u64,
 }
 
-/// What a coin shows less the amounts, if it has them.
+/// The balance of a coin less the sum of the amounts; none if it is less than the sum.
 fn left_of(coin: &Item, amounts: &[u64]) -> Option<u64>
     ensures { result ≡ (if nat_lt (amount_of coin.now.content) (sum amounts.now) then None else Some (amount_of coin.now.content - sum amounts.now)) }
 {
@@ -136,7 +136,7 @@ fn draw_coins(
     new_coins(alloc, &mut block.drawn, tx, made, currency, amounts)
 }
 
-/// Splits a coin of which so much is left.
+/// Splits a coin that keeps `left` into new coins of these amounts.
 fn split_coin(
     alloc: Global,
     block: &mut Block,
@@ -202,7 +202,7 @@ fn withheld(tx: &Transaction, argument: &Argument) -> u64
     }
 }
 
-/// What a coin shows with what the sources hold, if this and the withheld budget are an amount.
+/// The balance of a coin and its sources; none if this, with the budget withheld from the gas coin, passes 2^64 - 1.
 fn merged(
     block: &Block,
     tx: &Transaction,
@@ -219,7 +219,7 @@ fn merged(
     }
 }
 
-/// Merges sources into a coin that then shows so much.
+/// Merges sources into a coin, whose balance is `total` then.
 fn merge_coins(
     alloc: Global,
     block: &mut Block,
@@ -280,7 +280,7 @@ pub(crate) fn transfer(
     Ok(())
 }
 
-/// A row of one vector.
+/// A row of one result, the vector of these values.
 fn vector_row(
     alloc: Global,
     kind: Kind,

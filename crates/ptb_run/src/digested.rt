@@ -21,7 +21,7 @@ pub(crate) trait Digested {
         ensures { result ≡ digest_of_object (Self.seen self.now) };
 }
 
-/// A plain object is hashed for it.
+/// The digest of a plain object is taken at each call.
 impl Digested for Object {
     ghost seen = { λ o. o };
 
@@ -34,7 +34,7 @@ impl Digested for Object {
     }
 }
 
-/// The digest stands beside it.
+/// The digest is the one that is kept beside the object.
 impl Digested for HashedObject {
     ghost seen = { λ o. o };
 

@@ -28,7 +28,7 @@ impl Model for DrawnIds {
     ghost invariant = { λ d. AreDrawn d.tx 0 d.ids };
 }
 
-/// The id of this number, which is read if it is among those that were drawn.
+/// The id of a creation number: one of those kept if it is there, else hashed anew.
 fn read_or_hash(ids: &[ObjectId], tx: &Digest, number: u32) -> ObjectId
     requires { AreDrawn tx.now 0 ids.now }
     ensures { result ≡ drawn_id tx.now number }

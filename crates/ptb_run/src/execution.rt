@@ -37,7 +37,7 @@ fn failed_status(command: u16, fault: Fault) -> Status
     }
 }
 
-/// The effects of a block that ended so, and the objects that it leaves.
+/// The effects with this status and these lists, and the objects that they list.
 fn executed_as(
     alloc: Global,
     tx: &Transaction,
@@ -65,7 +65,7 @@ fn executed_as(
     })
 }
 
-/// What is executed if the block succeeds.
+/// Effects and objects of a transaction whose block succeeded.
 fn executed_done(
     alloc: Global,
     tx: &Transaction,
@@ -94,7 +94,7 @@ fn executed_done(
     )
 }
 
-/// What is executed if the block fails.
+/// Effects and objects of a transaction whose block failed.
 fn executed_failed(
     alloc: Global,
     tx: &Transaction,
@@ -115,7 +115,7 @@ fn executed_failed(
     executed_as(alloc, tx, site, status, 0, objects, Seq::new(alloc))
 }
 
-/// What is executed, whichever way the block ends.
+/// Runs the block, and gives the effects and objects of its success or failure.
 fn run_block(
     alloc: Global,
     tx: &Transaction,
@@ -139,7 +139,7 @@ fn run_block(
     }
 }
 
-/// What is executed on these objects, of which the first is the gas coin.
+/// Executes a transaction on these objects, of which the first is the gas coin.
 fn run_objects(
     alloc: Global,
     tx: &Transaction,
@@ -160,7 +160,7 @@ fn run_objects(
     }
 }
 
-/// Where the transaction of this digest writes, on these objects.
+/// The digest of a transaction and the version at which it writes on these objects.
 #[tactic(auto, using(crate::proofs::Executing::version_low, crate::proofs::Executing::version_is))]
 fn site_of(digest: &Digest, objects: &[Object]) -> Site
     requires { nat_lt (version_of objects.now) version_limit ≡ true }
@@ -173,7 +173,7 @@ fn site_of(digest: &Digest, objects: &[Object]) -> Site
     }
 }
 
-/// What is executed on the objects that fit.
+/// Executes a transaction on objects that fit it.
 #[tactic(auto, unfolding(protocol_spec::specs::Block::Execution::execution), using(crate::proofs::Executing::few_commands, protocol_spec::proofs::Checked::few_inputs, crate::proofs::Executing::known_natives, crate::proofs::Executing::none_wide, crate::proofs::Executing::fits_low, crate::proofs::Executing::fits_some))]
 fn execute_fitting(
     alloc: Global,

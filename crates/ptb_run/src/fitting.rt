@@ -170,7 +170,7 @@ pub fn fits(tx: &Transaction, inputs: &Seq<Object>) -> bool
     fit_objects(tx, objects) && pays_gas(tx, objects) && is_low(objects)
 }
 
-/// Likewise for objects whose digests are known.
+/// [`fits`] without hashing: the digest of each of the inputs stands beside it in `hashed`. Takes no memory.
 #[tactic(auto, unfolding(protocol_spec::specs::Chain::Keys::fits), using(crate::proofs::Seen::seen_all))]
 pub fn fits_hashed(tx: &Transaction, hashed: &[HashedObject], inputs: &[Object]) -> bool
     requires { hashed.now ≡ inputs.now }

@@ -53,7 +53,7 @@ fn object_at(version: u64, owner: Owner, item: &Item) -> Object
     }
 }
 
-/// The object of this id that left the block.
+/// The object of this id as it left the block, at its new version; none if none left.
 pub(crate) fn object_left(
     version: u64,
     left: &IndexMap<ObjectId, Placed>,

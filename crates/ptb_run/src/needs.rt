@@ -159,7 +159,7 @@ fn add_all(wanted: &mut Seq<Wanted>, need: Need, args: &[Argument]) -> Result<()
     Ok(())
 }
 
-/// The arguments of a native with its modes, in a list.
+/// Pairs any number of arguments with the modes of a native, in a list that takes memory.
 fn pair_each(alloc: Global, native: u8, args: &[Argument]) -> Result<Seq<Wanted>, OutOfMemory>
     requires known { native ≤ LAST_NATIVE }
     requires few { length args.now ≤ 512 }
@@ -182,7 +182,7 @@ fn pair_each(alloc: Global, native: u8, args: &[Argument]) -> Result<Seq<Wanted>
     Ok(wanted)
 }
 
-/// The arguments of a native with its modes, whatever their number.
+/// [`pair_each`] as [`Arguments`].
 fn pair_many(alloc: Global, native: u8, args: &[Argument]) -> Result<Arguments, OutOfMemory>
     requires known { native ≤ LAST_NATIVE }
     requires few { length args.now ≤ 512 }
@@ -201,7 +201,7 @@ fn in_mode(argument: Argument, mode: Mode) -> Wanted
     }
 }
 
-/// The arguments of a native with its modes.
+/// Pairs arguments with the modes of a native; up to three take no memory.
 fn paired(alloc: Global, native: u8, args: &[Argument]) -> Result<Arguments, OutOfMemory>
     requires known { native ≤ LAST_NATIVE }
     requires few { length args.now ≤ 512 }
@@ -228,7 +228,7 @@ fn paired(alloc: Global, native: u8, args: &[Argument]) -> Result<Arguments, Out
     pair_many(alloc, native, args)
 }
 
-/// Arguments that are all taken in one way.
+/// [`Arguments`] that are all taken in one way: MakeVec's.
 fn alone(alloc: Global, need: Need, args: &[Argument]) -> Result<Arguments, OutOfMemory>
     ensures { IfOk result (λ needs. listed needs ≡ all_after [] need args.now) }
 {
@@ -246,7 +246,7 @@ fn alone(alloc: Global, need: Need, args: &[Argument]) -> Result<Arguments, OutO
     }
 }
 
-/// An argument, and after it those that are all taken in another way.
+/// One argument, and then arguments that are all taken in another way: Split's and Merge's.
 fn headed(
     alloc: Global,
     first: Wanted,
@@ -271,7 +271,7 @@ fn headed(
     }
 }
 
-/// Arguments that are all taken in one way, and one after them.
+/// Arguments that are all taken in one way, and then one in another way: Transfer's.
 fn tailed(
     alloc: Global,
     need: Need,

@@ -19,7 +19,7 @@ use protocol_spec::Placed;
 use std::alloc::Global;
 use wire_bcs::{OutOfMemory, Seq};
 
-/// The objects that are written and still there, as they are at the end of the block.
+/// The written objects that the block did not delete, as they are at its end.
 fn keep_each(
     alloc: Global,
     version: u64,
@@ -40,7 +40,7 @@ fn keep_each(
     Ok(objects)
 }
 
-/// The ids of the objects that are no more at the end of the block.
+/// The ids of the written objects that the block deleted.
 pub(crate) fn drop_each(
     alloc: Global,
     version: u64,
@@ -119,7 +119,7 @@ fn written_of(object: &Object) -> Written
     }
 }
 
-/// Objects as effects list them.
+/// The loop of [`list_all`].
 fn list_each(alloc: Global, objects: &[Object]) -> Result<Seq<Written>, OutOfMemory>
     ensures { IfOk result (λ written. written ≡ listed_after [] objects.now) }
 {
@@ -132,7 +132,7 @@ fn list_each(alloc: Global, objects: &[Object]) -> Result<Seq<Written>, OutOfMem
     Ok(written)
 }
 
-/// Objects as effects list them.
+/// The entries of effects for these objects: id, owner and digest of each.
 #[tactic(auto, using(crate::proofs::Remaining::listed_are))]
 pub(crate) fn list_all(alloc: Global, objects: &[Object]) -> Result<Seq<Written>, OutOfMemory>
     ensures { IfOk result (λ written. written ≡ map written_of objects.now) }

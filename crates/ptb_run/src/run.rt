@@ -18,7 +18,7 @@ use crate::step::step;
 use chain_types::{Command, Object, Transaction};
 use std::alloc::Global;
 
-/// The command of this number.
+/// Runs the command of this number; a fault names it.
 #[tactic(auto, using(crate::proofs::Drawing::few_arguments))]
 fn step_at(
     alloc: Global,

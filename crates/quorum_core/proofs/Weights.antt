@@ -97,7 +97,7 @@ pub weight_below : (bound : ℕ) (stakes members : List ℕ) → ((place : ℕ) 
 unfolding weight_of
 weight_below bound stakes members small = below_from bound 0 stakes (is_among members) small
 
--- likewise if a roll is gone through from its start
+-- the members from a place on, as the one there and those after it: for a loop from the start of a roll
 front_of : (members : List ℕ) (place : ℕ) → place < length members → drop place members ≡ get_or members place 0 ∷ drop (place + 1) members
 front_of members place below = rw (add-one, drop-cons members place 0) refl
 

@@ -109,7 +109,7 @@ impl Committee {
         })
     }
 
-    /// The same committee once more. Takes no memory.
+    /// An equal committee. Takes no memory.
     pub fn copy(&self) -> Committee
         ensures { result ≡ self.now }
     {

@@ -1,4 +1,4 @@
-//! Members in order.
+//! Lists of members as certificates and chains have them: ascending, distinct and known.
 
 ghost use Rattle.std.specs.Prelude.{◌≡◌};
 ghost use Rattle.quorum_core.specs.Committee.{all_known, is_roll};

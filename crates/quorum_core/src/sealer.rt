@@ -21,7 +21,7 @@ pub trait Checker {
         ensures { result ≡ accepts self.now signer.now bytes.now seal.now };
 }
 
-/// Makes seals of signers over bytes too. No call takes memory.
+/// A [`Checker`] that makes seals too. No call takes memory.
 pub trait Sealer: Checker {
     /// A seal of the signer over the bytes, which is accepted.
     fn seal(&self, signer: &Signer, bytes: &[u8]) -> Digest
@@ -44,7 +44,7 @@ impl KeyedSeal {
     }
 }
 
-/// Feeds the encoding of a member.
+/// Feeds the hasher the encoding of `Signer::Member`, without taking memory for it.
 #[tactic(auto, unfolding(crate::specs::Signers::signer))]
 fn add_member(hasher: &mut Hasher, member: u32)
     ensures { (fed : List ℕ) → Hashes hasher.old fed → Hashes hasher.new (fed ++ codecs.signer.spell (signers.Member member)) }
@@ -53,7 +53,7 @@ fn add_member(hasher: &mut Hasher, member: u32)
     hasher.add(member.to_le_bytes().as_slice());
 }
 
-/// Feeds the encoding of a user.
+/// Feeds the hasher the encoding of `Signer::User`, without taking memory for it.
 #[tactic(auto, unfolding(crate::specs::Signers::signer))]
 fn add_user(hasher: &mut Hasher, address: &Digest)
     ensures { (fed : List ℕ) → Hashes hasher.old fed → Hashes hasher.new (fed ++ codecs.signer.spell (signers.User address.now)) }
@@ -62,7 +62,7 @@ fn add_user(hasher: &mut Hasher, address: &Digest)
     hasher.add(&address.0);
 }
 
-/// Feeds the encoding of a signer.
+/// Feeds the hasher the encoding of a signer, without taking memory for it.
 fn add_signer(hasher: &mut Hasher, signer: &Signer)
     ensures { (fed : List ℕ) → Hashes hasher.old fed → Hashes hasher.new (fed ++ codecs.signer.spell signer.now) }
 {

@@ -1,4 +1,4 @@
-//! Members in any order.
+//! Sets of members, given as lists in any order.
 
 ghost use Rattle.std.specs.Prelude.{◌≡◌, ◌≤◌, if◌then◌else◌, length};
 ghost use Rattle.quorum_core.specs.Committee.{is_among, total_of, weight};

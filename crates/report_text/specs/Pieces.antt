@@ -1,4 +1,4 @@
--- What the printer's pieces print.
+-- The bytes of one piece of a line: a text, a name, or a number in decimal digits.
 use Rattle.std.specs.Prelude.{ℕ, List, decimal}
 use Rattle.report_text.specs.declared.pieces.Piece.{Piece}
 use Rattle.report_text.specs.declared.pieces.Piece.TheVariants as piece

@@ -43,7 +43,7 @@ abbrev pub origin_word : Option (List ℕ) → List ℕ
 origin_word None = codes "-"
 origin_word (Some tx) = tx
 
--- a space before each
+-- the words of these origins, each after a space
 unfoldable pub origins_text : List (Option (List ℕ)) → List ℕ
 origins_text origins = flat_map (λ o. 32 ∷ origin_word o) origins
 
@@ -53,12 +53,12 @@ names_text names = flat_map (λ name. 32 ∷ name) names
 unfoldable pub numbers_text : List ℕ → List ℕ
 numbers_text numbers = flat_map (λ n. 32 ∷ decimal n) numbers
 
--- a word and names, if there are any
+-- a word and the names after it, each after a space; nothing if there are no names
 abbrev pub part_text : List ℕ → List (List ℕ) → List ℕ
 part_text word [] = []
 part_text word (name ∷ names) = word ++ names_text (name ∷ names)
 
--- what is admitted, then what is dropped
+-- `admitted` with its transactions, then `dropped` with its own; a part without transactions is left out
 abbrev pub taken_text : List (List ℕ) → List (List ℕ) → List ℕ
 taken_text [] dropped = part_text (codes "dropped") dropped
 taken_text (tx ∷ admitted) dropped =

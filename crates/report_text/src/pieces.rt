@@ -1,4 +1,4 @@
-//! Lines, piece by piece.
+//! Printing a line piece by piece: texts, names and numbers, and the heads that lines share.
 
 ghost use Rattle.std.specs.Prelude.{◌∷◌, [], decimal, codes};
 ghost use Rattle.std.specs.List.{concat, flat_map};
@@ -256,7 +256,7 @@ pub(crate) fn print_numbers(out: &mut Seq<u8>, numbers: &Seq<u64>) -> Result<(),
     Ok(())
 }
 
-/// A word and names, if there are any.
+/// Prints a word and the names after it, each after a space; nothing if there are no names.
 #[tactic(auto, using(crate::proofs::Appends::fronts))]
 pub(crate) fn print_part(
     out: &mut Seq<u8>,

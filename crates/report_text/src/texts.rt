@@ -137,7 +137,8 @@ pub(crate) fn print_see_text(out: &mut Seq<u8>, text: &SeeText) -> Result<(), Ou
     }
 }
 
-/// An End statement of a member, and the weight of those so far.
+/// Prints the text for an End of a member: the weight of the Ends so far, the committee's stake, and whether the epoch
+/// ended.
 fn print_end_of(
     out: &mut Seq<u8>,
     member: u64,

@@ -43,7 +43,7 @@ module _ {A B : Type 0} (f : A → B) (same : B → B → Bool) (self : (x : B) 
   one-of (z ∷ zs) e x y (inr h) (inl q) r = absurd (no-other (f z) (map f zs) (f x) (or_false_left (list_any (same (f z)) (map f zs)) (repeats same (map f zs)) e) (has_map f zs x h) (ap f q ∙ sym r))
   one-of (z ∷ zs) e x y (inr h) (inr k) r = one-of zs (or_false_right (list_any (same (f z)) (map f zs)) (repeats same (map f zs)) e) x y h k r
 
-  -- and of what stands after it
+  -- what is not among two lists, one after the other, is not among the first
   any-front : (x : B) (xs ys : List B) → list_any (same x) (xs ++ ys) ≡ false → list_any (same x) xs ≡ false
   any-front x [] ys e = refl
   any-front x (z ∷ xs) ys e = rw (or_false_left (same x z) (list_any (same x) (xs ++ ys)) e) (any-front x xs ys (or_false_right (same x z) (list_any (same x) (xs ++ ys)) e))
@@ -132,7 +132,7 @@ module _ (s : Setting) (events : List Event) (it : IsComputed s events) where
         (has_map created_id (flat_map numbered it.known) (t, n) (drawn t h n less)) (has_map opened_id s.opening o there) (sym e);
   }
 
--- so it meets them, if it is the run of a text without raw certificates, and few are faulty
+-- a computed run meets the run assumptions, if it is that of a text without raw certificates, and few are faulty
 pub meets-all : (text : List ℕ) (t : Schedule) → schedule_of text ≡ Ok t → Each (λ (e : Event). is_raw_hold e ≡ false) t.events → FewFaulty (setting_of (keyed program_secret) t.setup)
     → IsComputed (setting_of (keyed program_secret) t.setup) t.events → IsHonestRun (setting_of (keyed program_secret) t.setup) t.events
 meets-all text t read raw few it = record {

@@ -17,7 +17,8 @@ setting = setting_of (keyed program_secret) lines
 abbrev pub read_record : List ℕ → Result Record WireFault
 read_record bytes = read_as (whole journals.journal_record bytes)
 
--- a turn without an end of the epoch; a close; no such variant; a run whose length is not there
+-- bytes of a turn, of a close, and of no record (no such variant, no length), each with its fault; and the place at
+-- which a start refuses a turn of an epoch that has not ended
 pub record BadRecordsAreNamed : Type 0 where
   pub turn : read_record (5 ∷ []) ≡ Ok record_as.Turn
   pub close : read_record (3 ∷ []) ≡ Ok record_as.Close

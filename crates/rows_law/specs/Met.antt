@@ -1,4 +1,4 @@
--- What it is that the run of a text meets the run assumptions.
+-- The claim that the run of a text meets the run assumptions, and has a certain report.
 use Rattle.std.specs.Prelude.{◌≡◌, ℕ, List, [], ◌∷◌, ◌++◌, flat_map, Ok}
 use Rattle.schedule_text.specs.declared.words.Schedule.{Schedule}
 use Rattle.schedule_text.specs.Schedule.{schedule_of}

@@ -1,4 +1,4 @@
--- What it is to report these lines.
+-- The claim that a schedule has a certain report.
 use Rattle.std.specs.Prelude.{◌≡◌, List}
 use Rattle.schedule_text.specs.declared.words.Setup.{Setup}
 use Rattle.schedule_text.specs.declared.words.Event.{Event}

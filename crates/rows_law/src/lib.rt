@@ -172,7 +172,7 @@ pub fn honest_with_a_counter()
     ensures { HonestWithACounter }
 {}
 
-/// And by one over two epochs, of which the second spends what the first made.
+/// The run assumptions can be met: by a run over two epochs, of which the second spends what the first made.
 pub fn honest_through_two_epochs()
     ensures { HonestThroughTwoEpochs }
 {}

@@ -251,14 +251,14 @@ const TRANSFER_CHOICES: &[u64] = &[
     0, 1, 2, 3, 4, 5, 6, 7, 8, 10, 70, 73, 75, 79, 82, 907, 1803, 171458, 438920, 688094,
 ];
 
-/// Likewise for records of 1, 3, 48, 66, 165, 202 and 205 bytes.
+/// Numbers of crashes, as above, for records of 1, 3, 48, 66, 165, 202 and 205 bytes.
 const EPOCHS_CHOICES: &[u64] = &[
     0, 1, 2, 3, 4, 5, 6, 7, 8, 70, 73, 79, 907, 1803, 22868, 27440, 130310, 171458, 397772, 482354,
     489212,
 ];
 
-/// Likewise for the short run: 10 writes a prefix of two places, 73 one of nine; at 22868, 25154 and 27440 all are 1, an
-/// open gate, if they are 10, 11 or 12.
+/// Numbers of crashes, as above, for the short run: 10 writes a prefix of two places, 73 one of nine; at 22868, 25154
+/// and 27440 all are 1, an open gate, if they are 10, 11 or 12.
 const SHORT_CHOICES: &[u64] = &[
     0, 1, 2, 3, 4, 5, 6, 7, 8, 10, 12, 37, 39, 70, 73, 75, 79, 82, 22868, 25154, 27440, 999999996,
 ];

@@ -33,15 +33,15 @@ const TWO: &str =
 const THREE: &str =
     "01000000000000008664e69e5d6097e16cbe321bca1759cc2f4e908a4045089a58592cfd335e41f0805c8476ced89a9d1feb86c99137b7049dcfc88a198c062a07a3458d16584c4002000000000000000d83d79a41c8d25ba46c4ecf9ea9470cc187982c3eab64cd5a6ae68eff0e5560d0070000000000000100204e7030e3beadedd34c6d94354b55086f5e4d975eb9c716a3e984bea4947768da01010100010000";
 
-/// The digests of the first and of its effects.
+/// The digest of the first transaction, and that of its effects.
 const ONE_ITEM: &str =
     "1426d8ed2fd646d24b82c3ae079936d3e2216a833a5ac705cf7e0eb6ce2cce8795c9c55bf1d4656631a7fcd96ddf9aed1014d3a4a92ce254f0747ad1e41a88a2";
 
-/// Likewise for the second.
+/// The digest of the second transaction, and that of its effects.
 const TWO_ITEM: &str =
     "5b89049cb4bf5f9120b0eacfd8aff6c57fab284ae7d38b5e0ee95cd5d90fc36c5dd2d96abbeb4ab5c7bac838db3ba5f133055b7072d3c659d76ebfcf8ab7ec9c";
 
-/// Likewise for the third.
+/// The digest of the third transaction, and that of its effects.
 const THREE_ITEM: &str =
     "54df7ac6aad976f2f1d2a0d0e547a7fa3ebb9bb771716b8f2f6b0a19e4352440016427d9c808750efc53b625c247f489dfd81c1c9b2bb8afc7d8e0e23af1f1f2";
 
@@ -317,7 +317,7 @@ impl Shelf {
     ghost use Rattle.chain_types.specs.Equal.{digest_eq};
     ghost use Rattle.protocol_spec.specs.Chain.Words.{Each};
 
-    /// None.
+    /// A shelf without transactions.
     fn new(alloc: Global) -> Shelf
         ensures { result ≡ [] }
     {
@@ -380,8 +380,9 @@ impl Archive for Store {
 /// transaction stands there twice), the transactions that are known, the follower's epoch, and the answer: how many
 /// checkpoints were applied, or the number and the place at which it is `stuck` or `differs`.
 ///
-/// Those of the epochs before are taken, and no other is looked at. A transaction that is not known is reported before anything
-/// of its checkpoint is executed. The last one's third checkpoint does not go on from the first.
+/// The checkpoints of the epochs before are taken, and no other is looked at. A transaction that is not known is
+/// reported before anything of its checkpoint is executed. The last one's third checkpoint does not go on from the
+/// first.
 const ARCHIVES: &str = "\
 flt 123 0 applied 0 0
 flt 21 1 applied 2 0

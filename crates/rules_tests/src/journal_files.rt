@@ -52,10 +52,10 @@ fn counts(log: DiskLog<MemDisk>) -> (u64, u64) {
 /// A record of member 1 with the bytes 7 and 8, after a gate, and the next gate.
 const ONE: &[u8] = &[1, 2, 0, 0, 0, 1, 0, 0, 0, 7, 8, 0];
 
-/// Likewise after a closed gate.
+/// The record of member 1 with the bytes 7 and 8, but after a closed gate, and the next gate.
 const CLOSED: &[u8] = &[0, 2, 0, 0, 0, 1, 0, 0, 0, 7, 8, 0];
 
-/// Likewise after a torn gate, neither open nor closed.
+/// The record of member 1 with the bytes 7 and 8, but after a torn gate, neither open nor closed.
 const ODD: &[u8] = &[255, 2, 0, 0, 0, 1, 0, 0, 0, 7, 8, 0];
 
 /// A torn record after a closed gate.

@@ -68,7 +68,7 @@ pub record IsCarried {A B : Type 0} (a : Seating A) (b : Seating B) (h : ℕ →
   pub stays : (x : A) (y : Option Record) → a.up (a.acts x (keeps y)) ≡ a.up x
   pub seal : a.seal ≡ b.seal
 
--- the same rules, things and seals, and whatever else
+-- the setting with other flags, opening objects and users, and the same rules, things and seals
 abbrev pub aside : Setting → List Bool → List Object → List User → Setting
 aside s honest opening users = record { rules = s.rules; honest = honest; opening = opening; things = s.things; users = users; seal = s.seal }
 

@@ -34,7 +34,7 @@ pub spelled-push : (records : List Record) (x : Record) → spelled (records ++ 
 spelled-push [] x = refl
 spelled-push (y ∷ records) x = ap (λ (rest : List (List ℕ)). journals.journal_record.spell y ∷ rest) (spelled-push records x)
 
--- the same records in the two worlds
+-- each member has the same records in the two worlds
 abbrev KeepsRecords : World → World → Type 0
 KeepsRecords w next = (k : ℕ) → records_of (slice_get next.seats k) ≡ records_of (slice_get w.seats k)
 

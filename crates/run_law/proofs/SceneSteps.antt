@@ -175,7 +175,7 @@ module _ (s : Setting) where
   order-same w None = refl
   order-same w (Some c) = entry-if w (entry.Cert c) (c.tx.epoch == w.epoch)
 
-  -- the same with other rules and another seal
+  -- the bare setting with other rules and another seal
   abbrev bare_with : Trust → World → Rules → (Signer → List ℕ → Digest) → Setting
   bare_with trust w rules seal = record (bare_setting trust (scene_of s w)) { rules = rules; seal = seal }
 

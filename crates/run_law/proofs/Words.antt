@@ -186,7 +186,7 @@ ref_is r h = ref_has_form r.object r.version r.spoiled h.0 h.1
 pub ref_read : (r : RefWord) → IsRef r → ref_of (ref_word r) ≡ Some r
 ref_read r h = ref_has_value r.object r.version r.spoiled h.0 h.1
 
--- likewise for a reference without a sign
+-- the bytes of a reference without a sign
 unsigned : (o : ObjWord) (v : ℕ) → version_word o v ≡ object_word o ++ 64 ∷ (decimal v ++ [])
 unsigned o v = ap (λ (t : List ℕ). object_word o ++ 64 ∷ t) (sym (append-nil (decimal v)))
 

@@ -21,7 +21,7 @@ use Rattle.schedule_text.specs.declared.statement.Statement.{Statement}
 use Rattle.schedule_text.specs.declared.statement.Statement.TheVariants as statement
 use Rattle.schedule_text.specs.Commands.{native_names, kind_names}
 
--- a sign that stands only if it is said
+-- a mark like `!` or `?` if the flag is set, else nothing
 abbrev pub sign : Bool → List ℕ → List ℕ
 sign true text = text
 sign false text = []
@@ -55,7 +55,7 @@ arg_word (arg.Input n) = codes "i" ++ decimal n
 arg_word (arg.Result n) = codes "r" ++ decimal n
 arg_word (arg.Nested n k) = codes "r" ++ (decimal n ++ (codes "." ++ decimal k))
 
--- a name, and words between commas in parentheses
+-- a command word: a name, and the words between commas in parentheses
 abbrev pub call_word : List ℕ → List (List ℕ) → List ℕ
 call_word name words = name ++ (codes "(" ++ (join_with_byte 44 words ++ codes ")"))
 

@@ -12,7 +12,7 @@ use Rattle.world_spec.specs.Run.{world_after}
 use Rattle.world_spec.specs.Assumptions.{NoForgery}
 use Rattle.safety_law.specs.Owners.{is_raw_hold, AreSpellable}
 
--- what the set-up lines fix, with seals that are keyed digests
+-- the setting of a schedule whose seals are keyed digests under this secret
 abbrev pub keyed_setting : List ℕ → Schedule → Setting
 keyed_setting secret t = setting_of (keyed secret) t.setup
 
@@ -21,12 +21,12 @@ abbrev pub ReadTransactionsAreSpellable : Type 0
 ReadTransactionsAreSpellable = (text : List ℕ) (t : Schedule) → schedule_of text ≡ Ok t → (secret : List ℕ)
     → Each (λ (m : Made). transactions.signed.fits m.signed) (world_after (keyed_setting secret t) t.events).txs
 
--- and so are the certificates that they form and the entries that they order
+-- the certificates that its lines form and the entries that they order are such values too, short enough to be encoded
 abbrev pub ReadRunsAreSpellable : Type 0
 ReadRunsAreSpellable = (text : List ℕ) (t : Schedule) → schedule_of text ≡ Ok t → (secret : List ℕ)
     → AreSpellable (keyed_setting secret t) t.events
 
--- so without `raw .. hold` lines no statement is forged
+-- without `raw .. hold` lines no statement of its run is forged
 abbrev pub NothingReadIsForged : Type 0
 NothingReadIsForged = (text : List ℕ) (t : Schedule) → schedule_of text ≡ Ok t → (secret : List ℕ)
     → Each (λ (e : Event). is_raw_hold e ≡ false) t.events

@@ -29,7 +29,7 @@ abbrev pub with_workers : ℕ → Event → Event
 with_workers n (event.Run m workers) = event.Run m n
 with_workers n e = e
 
--- the report, and each member's journal
+-- the number of workers of the run lines changes neither the report nor any member's journal
 abbrev pub WorkersChangeNothing : Type 0
 WorkersChangeNothing =
     (s : Setting) (events : List Event) (n : ℕ) →

@@ -40,32 +40,32 @@ plain_ref o version = record { object = o; version = version; spoiled = false }
 abbrev pub gas_of : ℕ → RefWord
 gas_of k = plain_ref (object.Setup (coin k)) 1
 
--- a coin is split off the gas coin and sent
+-- the event of transaction `k` of the first shape: it splits a coin off the gas coin and sends it
 abbrev pub split_event : ℕ → Event
 split_event k =
     event.Tx (transaction k) (codes "u0") false 0 (gas_of k) 2000 (input.Number 5 ∷ input.Address (codes "u1") ∷ [])
     (command.Split (arg.Gas ∷ arg.Input 0 ∷ []) ∷ command.Transfer (arg.Result 0 ∷ arg.Input 1 ∷ []) ∷ [])
 
--- what the transaction before created is sent back
+-- the event of transaction `k` of the second shape: it sends back the coin that transaction `k - 1` created
 abbrev pub spend_event : ℕ → Event
 spend_event k =
     event.Tx (transaction k) (codes "u1") false 0 (gas_of k) 2000
     (input.Owned (plain_ref (object.Created (transaction (k - 1)) 0) 2) ∷ input.Address (codes "u0") ∷ [])
     (command.Transfer (arg.Input 0 ∷ arg.Input 1 ∷ []) ∷ [])
 
--- the counter is raised: native 5 is `counter_add`
+-- the event of transaction `k` of the third shape: it raises the counter (native 5 is `counter_add`)
 abbrev pub write_event : ℕ → Event
 write_event k =
     event.Tx (transaction k) (codes "u0") false 0 (gas_of k) 2000 (input.Number 1 ∷ input.Shared (object.Setup counter) 1 true ∷ [])
     (command.Call 5 (arg.Input 1 ∷ arg.Input 0 ∷ []) ∷ [])
 
--- the counter is read: native 6 is `counter_require`
+-- the event of transaction `k` of the fourth shape: it reads the counter (native 6 is `counter_require`)
 abbrev pub read_event : ℕ → Event
 read_event k =
     event.Tx (transaction k) (codes "u0") false 0 (gas_of k) 2000 (input.Number 0 ∷ input.Shared (object.Setup counter) 1 false ∷ [])
     (command.Call 6 (arg.Input 1 ∷ arg.Input 0 ∷ []) ∷ [])
 
--- the transaction of number k, by its place among four
+-- the event of transaction `k`: one of the four shapes in turn
 abbrev pub tx_event : ℕ → Event
 tx_event k =
     if k % 4 == 0 then split_event k
@@ -73,37 +73,38 @@ tx_event k =
     else (if k % 4 == 2 then write_event k
     else read_event k))
 
--- three votes and the certificate
+-- the events by which members 0 to 2 vote for transaction `k`, and its certificate is formed
 abbrev pub vote_events : ℕ → List Event
 vote_events k =
     event.Vote 0 (transaction k) ∷ event.Vote 1 (transaction k) ∷ event.Vote 2 (transaction k)
     ∷ event.Cert (transaction k) (0 ∷ 1 ∷ 2 ∷ []) ∷ []
 
--- three members execute it at once
+-- the events by which members 0 to 2 take the certificate of transaction `k`, and execute it before it is in the
+-- sequence
 abbrev pub send_events : ℕ → List Event
 send_events k =
     event.Send 0 (transaction k) ∷ event.Run 0 1 ∷ event.Send 1 (transaction k) ∷ event.Run 1 1
     ∷ event.Send 2 (transaction k) ∷ event.Run 2 1 ∷ []
 
--- after the transaction; the first of four is executed at once
+-- the events after transaction `k`: its votes, its certificate, and its early execution if it is the first of four
 abbrev pub after_tx : ℕ → List Event
 after_tx k = if k % 4 == 0 then vote_events k ++ send_events k else vote_events k
 
 abbrev pub certified : ℕ → List Event
 certified k = tx_event k ∷ after_tx k
 
--- its place in the sequence, and a mark after each 64
+-- the event that orders transaction `k`, and a mark after each 64 of them
 abbrev pub ordered : ℕ → List Event
 ordered k =
     if (k + 1) % 64 == 0
     then event.Order (transaction k) ∷ event.OrderCommit ∷ []
     else event.Order (transaction k) ∷ []
 
--- the late member takes and executes all
+-- the events by which the late member 3 takes the whole sequence and executes it
 abbrev pub late : ℕ → List Event
 late workers = event.See 3 65535 ∷ event.Run 3 workers ∷ []
 
--- the others take the sequence; three end the epoch; all turn
+-- the last events: members 0 to 2 take the sequence and end the epoch, all four turn, and member 0 is shown
 abbrev pub ending : List Event
 ending =
     event.See 0 65535 ∷ event.Run 0 1 ∷ event.See 1 65535 ∷ event.Run 1 1 ∷ event.See 2 65535 ∷ event.Run 2 1
@@ -112,7 +113,7 @@ ending =
     ∷ event.See 0 3 ∷ event.Turn 0 ∷ event.See 1 3 ∷ event.Turn 1 ∷ event.See 2 3 ∷ event.Turn 2 ∷ event.See 3 3 ∷ event.Turn 3
     ∷ event.Show 0 ∷ []
 
--- after all transactions
+-- the events after all transactions are certified
 abbrev pub rest : ℕ → ℕ → List Event
 rest number workers = flat_map ordered (range_with_len 0 number) ++ (late workers ++ ending)
 

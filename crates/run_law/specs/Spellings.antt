@@ -1,4 +1,4 @@
--- What has one encoding is one value. Source: BCS.
+-- Different values have different encodings. Source: BCS.
 use Rattle.std.specs.Prelude.{◌≡◌}
 use Rattle.wire_bcs.specs.Codec.{Codec}
 use Rattle.chain_types.specs.Transactions as transactions

@@ -7,11 +7,11 @@ use Rattle.run_law.specs.Canonical.{canonical}
 use Rattle.run_law.specs.Made.{made}
 use Rattle.run_law.specs.Sayable.{IsSayable}
 
--- what a text can say is read from its canonical text, if that is not too long
+-- a schedule that a text can say is read back from its canonical text, if that is not too long
 abbrev pub CanonicalTextReadsBack : Type 0
 CanonicalTextReadsBack = (s : Schedule) → IsSayable s → length (canonical s) ≤ longest_text → schedule_of (canonical s) ≡ Ok s
 
--- what is read from any text can be said, so it is read from its canonical text too
+-- a schedule that is read from any text is one that a text can say, so it is read back from its canonical text too
 abbrev pub WhatIsReadCanBeSaid : Type 0
 WhatIsReadCanBeSaid = (text : List ℕ) (s : Schedule) → schedule_of text ≡ Ok s → IsSayable s
 

@@ -7,13 +7,13 @@ pub fn read_transactions_are_spellable()
     ensures { ReadTransactionsAreSpellable }
 {}
 
-/// So is each certificate that its run forms, and each entry that it orders.
+/// Each certificate that the run of a read schedule forms, and each entry that it orders, is such a value too.
 pub fn read_runs_are_spellable()
     ensures { ReadRunsAreSpellable }
 {}
 
-/// Without lines that hand over bytes as a certificate, no statement of its run is forged. It is said of keyed seals, which
-/// have 32 bytes: a certificate that collects a seal of another length is not read back as itself.
+/// Without lines that hand over bytes as a certificate, no statement in the run of a read schedule is forged. It is said of
+/// keyed seals, which have 32 bytes: a certificate that collects a seal of another length is not read back as itself.
 pub fn nothing_read_is_forged()
     ensures { NothingReadIsForged }
 {}

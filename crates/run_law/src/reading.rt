@@ -2,17 +2,18 @@
 //! ambiguous; and the generator's text is the text of a schedule.
 ghost use Rattle.run_law.specs.TextLaws.{CanonicalTextReadsBack, GeneratedTextIsASchedule, WhatIsReadCanBeSaid, WhatIsReadReadsBack};
 
-/// What a text can say is read from its canonical text.
+/// A schedule that a text can say is read back from its canonical text.
 pub fn canonical_text_reads_back()
     ensures { CanonicalTextReadsBack }
 {}
 
-/// What is read has its forms and ranges, and its lines may follow one another.
+/// A schedule that is read is one that a text can say: its words have their forms and ranges, and its lines may follow
+/// one another.
 pub fn what_is_read_can_be_said()
     ensures { WhatIsReadCanBeSaid }
 {}
 
-/// What is read from any text is read from its canonical text too.
+/// A schedule that is read from any text is read back from its canonical text too.
 pub fn what_is_read_reads_back()
     ensures { WhatIsReadReadsBack }
 {}

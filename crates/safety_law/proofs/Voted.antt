@@ -55,7 +55,7 @@ formed-collected s events c h x k = go (formed-of s events c h)
 pub formed-stated : (s : Setting) (events : List Event) (c : Certificate) → Has (all_formed s events) c → (x : MemberSeal) → Has c.seals x → HasStated (world_after s events) c x.member
 formed-stated s events c h x k = (Some x.seal, formed-collected s events c h x k)
 
--- and the seal is its own on it
+-- each seal of a certificate that a line formed is its member's own on the vote
 formed-sealed : (s : Setting) (events : List Event) (c : Certificate) → Has (all_formed s events) c → (x : MemberSeal) → Has c.seals x → x.seal ≡ member_seal s x.member (vote_of c)
 formed-sealed s events c h x k = go (formed-of s events c h)
   where

@@ -41,7 +41,7 @@ OneSequence = (s : Setting) (events : List Event) (m n : ℕ) (a b : Seat)
     → (member_in s a).epoch ≡ (member_in s b).epoch → (member_in s a).opening ≡ (member_in s b).opening
     → IsEarlier (member_in s a).sequence (member_in s b).sequence ⊎ IsEarlier (member_in s b).sequence (member_in s a).sequence
 
--- under its digest, a valid certificate of the epoch, which was delivered
+-- the certificate has this digest, is valid and of this epoch, and was delivered
 pub record IsGiven (r : Rules) (delivered : List Certificate) (epoch : ℕ) (digest : Digest) (c : Certificate) : Type 0 where
   pub digest_is : digest ≡ transaction_digest c.tx
   pub valid : cert_refusal r c ≡ None
@@ -54,7 +54,7 @@ IsAdmittedAsGiven r delivered epoch a = IsGiven r delivered epoch a.digest a.cer
 abbrev pub IsHeldAsGiven : Rules → List Certificate → ℕ → Held → Type 0
 IsHeldAsGiven r delivered epoch h = IsGiven r delivered epoch h.digest h.cert
 
--- what a member admitted: in order, and each was given
+-- a member's admitted transactions are in order, and each has a certificate that was given (`IsGiven`)
 pub record IsAdmittedInOrder (s : Setting) (events : List Event) (m : Member) : Type 0 where
   pub order : Along (IsInOrder m.opening) [] m.sequence.admission.admitted
   pub given : Each (IsAdmittedAsGiven s.rules (all_delivered s events) m.epoch) m.sequence.admission.admitted

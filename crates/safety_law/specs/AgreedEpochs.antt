@@ -31,7 +31,8 @@ pub record AreOfThread (s : Setting) (sequences : List (List Entry)) (m : Member
   pub effects : effects_of_thread s sequences m.epoch cuts ≡ map (effects_at m) (flat_map admitted_in cuts)
   pub items : map item_with (zip (flat_map admitted_in cuts) (effects_of_thread s sequences m.epoch cuts)) ≡ map (item_of m.executed) (flat_map admitted_in cuts)
 
--- so are those of the cuts whose checkpoints a member has built, in every run under the run assumptions
+-- under the run assumptions, the first cuts of a member's sequence whose checkpoints it has built are of one thread in
+-- this sense
 abbrev pub EveryCheckpoint : Type 0
 EveryCheckpoint = (s : Setting) (events : List Event) → IsHonestRun s events → AreApart s.opening
     → (m : ℕ) (seat : Seat) → slice_get (world_after s events).seats m ≡ Some seat
@@ -46,7 +47,8 @@ pub record Agree (a b : Member) : Type 0 where
   pub executions : (x y : Execution) → Has a.executed x → Has b.executed y → x.digest ≡ y.digest → x.gave ≡ y.gave
   pub past : a.past ≡ b.past
 
--- at any two moments of the run, the first of which may be the second
+-- under the run assumptions two members of one epoch agree, at any two moments of the run, the first of which may be
+-- the second
 abbrev pub MembersAgree : Type 0
 MembersAgree = (s : Setting) (front back : List Event) → IsHonestRun s (front ++ back) → AreApart s.opening
     → (m n : ℕ) (a b : Seat) → slice_get (world_after s front).seats m ≡ Some a → slice_get (world_after s (front ++ back)).seats n ≡ Some b
@@ -58,7 +60,8 @@ BuiltIsOfThread = (s : Setting) (events : List Event) → IsHonestRun s events �
     → (m : ℕ) (seat : Seat) → slice_get (world_after s events).seats m ≡ Some seat
     → IsFront (built (member_in s seat)) (past_at s (world_after s events).sequences (suc (member_in s seat).epoch))
 
--- so of what two members have built, at any two moments and in whatever epochs, the one is a prefix of the other
+-- under the run assumptions, of what two members have built, at any two moments and in whatever epochs, the one is a
+-- prefix of the other
 abbrev pub OneListOfCheckpoints : Type 0
 OneListOfCheckpoints = (s : Setting) (front back : List Event) → IsHonestRun s (front ++ back) → AreApart s.opening
     → (m n : ℕ) (a b : Seat) → slice_get (world_after s front).seats m ≡ Some a → slice_get (world_after s (front ++ back)).seats n ≡ Some b

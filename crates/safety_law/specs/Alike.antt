@@ -14,8 +14,8 @@ use Rattle.world_spec.specs.Assumptions.{IsHonestRun}
 abbrev pub AreHeldAlike : Member → Member → Type 0
 AreHeldAlike a b = (h k : Held) → Has a.held h → Has b.held k → h.digest ≡ k.digest → (h.cert.tx ≡ k.cert.tx) × (h.cert.origins ≡ k.cert.origins)
 
--- if that is so, two members of one epoch that opened it with equal objects give the same for a transaction that
--- both executed, in whatever order they executed
+-- if their certificates are alike in this sense, two members of one epoch that opened it with equal objects give the
+-- same for a transaction that both executed, in whatever order they executed
 abbrev pub ExecutionsAgree : Type 0
 ExecutionsAgree = (s : Setting) (events : List Event) (m n : ℕ) (a b : Seat)
     → slice_get (world_after s events).seats m ≡ Some a → slice_get (world_after s events).seats n ≡ Some b

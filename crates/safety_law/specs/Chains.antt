@@ -28,8 +28,9 @@ pub record IsLink (opening : List Object) (before : List Step) (x : Step) : Type
   pub stands : (p : Object) → Has (gave x).objects p → get (standing opening (before ++ x ∷ [])) p.id ≡ Some p
   pub once : (y : Step) → Has before y → (key : ObjectKey) → Has (consumed_keys y.tx) key → Has (consumed_keys x.tx) key → ⊥
 
--- so the versions of each object form one chain: what a member executed of the transactions that it admitted first, in
--- whatever order, goes on link by link in the order of admission, which is that of the checkpoints
+-- under the run assumptions the versions of each object form one chain: what a member executed of the transactions
+-- that it admitted first, in whatever order, goes on link by link in the order of admission, which is that of the
+-- checkpoints
 abbrev pub VersionsAreChains : Type 0
 VersionsAreChains = (s : Setting) (events : List Event) → IsHonestRun s events → AreApart s.opening
     → (m : ℕ) (seat : Seat) → slice_get (world_after s events).seats m ≡ Some seat

@@ -40,7 +40,7 @@ NoVersionIsVotedTwice = (s : Setting) (events : List Event) (m : ℕ) (seat : Se
     → t.epoch ≡ u.epoch → (transaction_digest t ≡ transaction_digest u → ⊥)
     → (key : ObjectKey) → Has (consumed_keys t) key → Has (consumed_keys u) key → ⊥
 
--- and two votes of one epoch for one transaction name the same origins
+-- over the whole journal: two votes of one epoch for one transaction name the same origins
 abbrev pub VotesNameOneOrigins : Type 0
 VotesNameOneOrigins = (s : Setting) (events : List Event) (m : ℕ) (seat : Seat) → slice_get (world_after s events).seats m ≡ Some seat
     → (t u : Transaction) (origins others : List (Option Digest)) → Has seat.records (record_as.Vote t origins) → Has seat.records (record_as.Vote u others)

@@ -39,7 +39,7 @@ pub record IsOver (opening : List Object) (q : Sequence) : Type 0 where
   pub executed : Each HasEffects (fold_all (map_of opening) (checkpointed q)).effects
   pub follow : GasHoldsIn opening q → Follow (opened_with (map_of opening)) (checkpointed q)
 
--- so it is of an epoch of the world's sequences, which opens with what the epochs before left
+-- an epoch of the world's sequences is over in this sense; it opens with what the epochs before left
 abbrev pub IsPast : Setting → List (List Entry) → ℕ → Type 0
 IsPast s sequences epoch = IsOver (opening_at s sequences epoch) (sequence_of s sequences epoch (opening_at s sequences epoch))
 
@@ -50,13 +50,13 @@ pub record OpensAsLeft (s : Setting) (sequences : List (List Entry)) (m : Member
   pub past : (epoch : ℕ) → epoch < m.epoch → IsPast s sequences epoch
   pub checkpoints : m.past ≡ past_at s sequences m.epoch
 
--- every member does, in every run under the run assumptions, from a set-up with objects of different ids
+-- under the run assumptions, from a set-up with objects of different ids, every member opened its epoch in this way
 abbrev pub EveryOpening : Type 0
 EveryOpening = (s : Setting) (events : List Event) → IsHonestRun s events → AreApart s.opening
     → (m : ℕ) (seat : Seat) → slice_get (world_after s events).seats m ≡ Some seat
     → OpensAsLeft s (world_after s events).sequences (member_in s seat)
 
--- so two members of one epoch opened it with equal objects, at any two moments of the run
+-- under the run assumptions two members of one epoch opened it with equal objects, at any two moments of the run
 abbrev pub OpenedAlike : Type 0
 OpenedAlike = (s : Setting) (front back : List Event) → IsHonestRun s (front ++ back) → AreApart s.opening
     → (m n : ℕ) (a b : Seat) → slice_get (world_after s front).seats m ≡ Some a → slice_get (world_after s (front ++ back)).seats n ≡ Some b

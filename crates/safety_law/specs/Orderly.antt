@@ -25,7 +25,8 @@ pub record OpensApart (s : Setting) (events : List Event) (m : Member) : Type 0 
   pub distinct : AreApart m.opening
   pub new : (t : Transaction) → Has (all_transactions s events) t → t.epoch ≡ m.epoch → (n : ℕ) → n < draws t.commands → (o : Object) → Has m.opening o → o.id ≡ created t n → ⊥
 
--- from such a set-up every epoch of every member opens so
+-- from a set-up with objects of different ids, every epoch of every member opens with objects of different ids
+-- (`OpensApart`)
 abbrev pub EpochsOpenApart : Type 0
 EpochsOpenApart = (s : Setting) (events : List Event) → IsHonestRun s events → AreApart s.opening
     → (m : ℕ) (seat : Seat) → slice_get (world_after s events).seats m ≡ Some seat → OpensApart s events (member_in s seat)

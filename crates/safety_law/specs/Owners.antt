@@ -41,7 +41,8 @@ FormedIsVotedFor = (s : Setting) (events : List Event) (c : Certificate) → Has
 abbrev pub IsFormedOrValid : Setting → List Event → Certificate → Type 0
 IsFormedOrValid s events c = Has (all_formed s events) c ⊎ (Has (all_delivered s events) c × (cert_refusal s.rules c ≡ None))
 
--- so is each certificate that is certified; the laws below are of all of these
+-- each certificate that is certified was formed by a line, or is a valid one that a line delivered; the laws below are
+-- of all of these
 abbrev pub CertifiedIsFormedOrValid : Type 0
 CertifiedIsFormedOrValid = (s : Setting) (events : List Event) (c : Certificate) → IsCertified s events c → IsFormedOrValid s events c
 
@@ -89,7 +90,7 @@ is_member m (Some n) = n == m
 unfoldable pub handed : ℕ → Setting → World → Event → List SignedTx
 handed m s w e = if is_member m (callee e) then asked s w e else []
 
--- over a whole run
+-- the signed transactions that the lines of a whole run hand to a member
 abbrev pub all_handed : Setting → List Event → ℕ → List SignedTx
 all_handed s events m = all_of (handed m) s events (new_world s)
 
@@ -106,7 +107,7 @@ abbrev pub NoForkIsMet : Type 0
 NoForkIsMet = (s : Setting) (front back : List Event) → IsHonestRun s (front ++ back) → (m : ℕ) (seat : Seat) → slice_get (world_after s front).seats m ≡ Some seat
     → fork_of (member_in s seat) ≡ None
 
--- nor does a call of the next line lead a member to one, even if it stops at the append
+-- no call of the next line leads a member to two such certificates, even if it stops at the append
 abbrev pub NoCallMeetsAFork : Type 0
 NoCallMeetsAFork = (s : Setting) (front back : List Event) (e : Event) → IsHonestRun s (front ++ e ∷ back) → (m : ℕ) (seat : Seat) → slice_get (world_after s front).seats m ≡ Some seat
     → (call : Call) → Has (calls_of s (world_after s front) e) call → fork_of (called s.rules (member_in s seat) call) ≡ None

@@ -42,7 +42,7 @@ CurrenciesAreBacked = (s : Setting) (events : List Event) → IsHonestRun s even
 
 -- ---- set-ups
 
--- the set-up of every schedule opens so
+-- the set-up of every schedule is backed: of each currency other than gas its objects hold as much as their caps say
 abbrev pub SetUpIsBacked : Type 0
 SetUpIsBacked = (trust : Trust) (lines : List Setup) (currency : ℕ) → currency ≢ 0
     → currency_sum (setting_of trust lines).opening currency ≡ supply_sum (setting_of trust lines).opening currency
@@ -55,6 +55,6 @@ NamesOther (line.Counter name value) = Unit {0}
 NamesOther (line.Cap name who currency) = currency ≢ 0
 NamesOther (line.Writers n) = Unit {0}
 
--- from such lines the currency of gas has no cap
+-- a set-up whose lines name no cap of the currency of gas has no such cap
 abbrev pub SetUpHasNoGasCap : Type 0
 SetUpHasNoGasCap = (trust : Trust) (lines : List Setup) → Each NamesOther lines → cap_count (setting_of trust lines).opening 0 ≡ 0

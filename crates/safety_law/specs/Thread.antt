@@ -36,7 +36,7 @@ item_with (a, Some e) = record { tx = a.digest; effects = digest_of_effects e }
 abbrev pub thread_effects : Member → List Admitted → List (Option Effects)
 thread_effects m front = (fold_all (map_of m.opening) (map transaction_of front)).effects
 
--- they are the member's own, and so are the items of checkpoints
+-- the member's own effects of these transactions are those of one thread, and so are their checkpoint items
 pub record GivesOneThread (m : Member) (front : List Admitted) : Type 0 where
   pub effects : thread_effects m front ≡ map (effects_at m) front
   pub items : map item_with (zip front (thread_effects m front)) ≡ map (item_of m.executed) front

@@ -17,7 +17,7 @@ pub fn executed_is_step()
     ensures { ExecutedIsStep }
 {}
 
-/// It was executed at the version with which it was admitted.
+/// An admitted transaction that a member executed was executed at the version with which it was admitted.
 pub fn versions_same()
     ensures { VersionsSame }
 {}
@@ -38,7 +38,8 @@ pub fn steps_orderly()
     ensures { StepsOrderly }
 {}
 
-/// Their effects, and their items in checkpoints, are those of one thread that executes these transactions in order.
+/// The effects of the transactions that a member admitted first and executed, and their items in checkpoints, are
+/// those of one thread that executes them in order.
 pub fn effects_of_fold()
     ensures { EffectsOfFold }
 {}

@@ -12,7 +12,7 @@ pub fn every_opening()
     ensures { EveryOpening }
 {}
 
-/// So two members of one epoch opened it with equal objects, at any two moments of the run.
+/// Under the run assumptions two members of one epoch opened it with equal objects, at any two moments of the run.
 pub fn opened_alike()
     ensures { OpenedAlike }
 {}
@@ -60,7 +60,7 @@ pub fn currencies_are_backed()
     ensures { CurrenciesAreBacked }
 {}
 
-/// The set-up of every schedule opens so.
+/// In the set-up of every schedule the objects hold, of each currency other than gas, as much as their caps say.
 pub fn set_up_is_backed()
     ensures { SetUpIsBacked }
 {}

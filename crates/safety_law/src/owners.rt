@@ -45,7 +45,8 @@ pub fn no_fork_is_met()
     ensures { NoForkIsMet }
 {}
 
-/// Nor does a call of the next line lead a member to two such certificates, even if it stops at the append.
+/// No call of the next line leads a member to two certificates that consume one version, even if it stops at the
+/// append.
 pub fn no_call_meets_a_fork()
     ensures { NoCallMeetsAFork }
 {}

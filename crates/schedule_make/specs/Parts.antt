@@ -1,4 +1,4 @@
--- What a part of a line prints.
+-- The bytes of one part of a line: a text, or a number in decimal digits.
 use Rattle.std.specs.Prelude.{ℕ, List, decimal}
 use Rattle.schedule_make.specs.declared.parts.Part.{Part}
 use Rattle.schedule_make.specs.declared.parts.Part.TheVariants as part

@@ -32,7 +32,7 @@ fn print_coin(out: &mut Seq<u8>, k: u32) -> Result<(), OutOfMemory>
     }
 }
 
-/// A coin is split off the gas coin and sent.
+/// Prints transaction `k` of the first shape: it splits a coin off the gas coin and sends it.
 #[tactic(auto, unfolding(crate::specs::Make::split_text))]
 fn print_split(out: &mut Seq<u8>, k: u32) -> Result<(), OutOfMemory>
     ensures { OnOk result (out.new ≡ out.old ++ split_text k) }
@@ -49,7 +49,7 @@ fn print_split(out: &mut Seq<u8>, k: u32) -> Result<(), OutOfMemory>
     )
 }
 
-/// What the transaction before created is sent back.
+/// Prints transaction `k` of the second shape: it sends back the coin that transaction `k - 1` created.
 #[tactic(auto, unfolding(crate::specs::Make::spend_text))]
 fn print_spend(out: &mut Seq<u8>, k: u32) -> Result<(), OutOfMemory>
     requires { 0 < k }
@@ -69,7 +69,7 @@ fn print_spend(out: &mut Seq<u8>, k: u32) -> Result<(), OutOfMemory>
     )
 }
 
-/// The counter is raised.
+/// Prints transaction `k` of the third shape: it raises the counter.
 #[tactic(auto, unfolding(crate::specs::Make::write_text))]
 fn print_write(out: &mut Seq<u8>, k: u32) -> Result<(), OutOfMemory>
     ensures { OnOk result (out.new ≡ out.old ++ write_text k) }
@@ -86,7 +86,7 @@ fn print_write(out: &mut Seq<u8>, k: u32) -> Result<(), OutOfMemory>
     )
 }
 
-/// The counter is read.
+/// Prints transaction `k` of the fourth shape: it reads the counter.
 #[tactic(auto, unfolding(crate::specs::Make::read_text))]
 fn print_read(out: &mut Seq<u8>, k: u32) -> Result<(), OutOfMemory>
     ensures { OnOk result (out.new ≡ out.old ++ read_text k) }
@@ -103,7 +103,7 @@ fn print_read(out: &mut Seq<u8>, k: u32) -> Result<(), OutOfMemory>
     )
 }
 
-/// The transaction of number k.
+/// Prints the line of transaction `k`: one of the four shapes in turn.
 fn print_tx(out: &mut Seq<u8>, k: u32) -> Result<(), OutOfMemory>
     ensures { OnOk result (out.new ≡ out.old ++ tx_text k) }
 {
@@ -119,7 +119,7 @@ fn print_tx(out: &mut Seq<u8>, k: u32) -> Result<(), OutOfMemory>
     print_read(out, k)
 }
 
-/// Three votes and the certificate.
+/// Prints the lines by which members 0 to 2 vote for transaction `k`, and its certificate is formed.
 #[tactic(auto, unfolding(crate::specs::Make::votes_text))]
 fn print_votes(out: &mut Seq<u8>, k: u32) -> Result<(), OutOfMemory>
     ensures { OnOk result (out.new ≡ out.old ++ votes_text k) }
@@ -140,7 +140,8 @@ fn print_votes(out: &mut Seq<u8>, k: u32) -> Result<(), OutOfMemory>
     )
 }
 
-/// Three members execute it at once.
+/// Prints the lines by which members 0 to 2 take the certificate of transaction `k`, and execute it before it is in
+/// the sequence.
 #[tactic(auto, unfolding(crate::specs::Make::sends_text))]
 fn print_sends(out: &mut Seq<u8>, k: u32) -> Result<(), OutOfMemory>
     ensures { OnOk result (out.new ≡ out.old ++ sends_text k) }
@@ -159,7 +160,7 @@ fn print_sends(out: &mut Seq<u8>, k: u32) -> Result<(), OutOfMemory>
     )
 }
 
-/// The transaction, its votes, its certificate; and what is executed at once.
+/// Prints transaction `k`, its votes and its certificate; and its early execution, if it is a split.
 #[tactic(auto, unfolding(crate::specs::Make::certified_text))]
 fn print_certified(out: &mut Seq<u8>, k: u32) -> Result<(), OutOfMemory>
     ensures { OnOk result (out.new ≡ out.old ++ certified_text k) }
@@ -173,7 +174,7 @@ fn print_certified(out: &mut Seq<u8>, k: u32) -> Result<(), OutOfMemory>
     }
 }
 
-/// The transaction's place in the sequence, and a mark after each 64.
+/// Prints the line that orders transaction `k`, and a mark after each 64 of them.
 #[tactic(auto, unfolding(crate::specs::Make::order_text))]
 fn print_order(out: &mut Seq<u8>, k: u32) -> Result<(), OutOfMemory>
     requires { k < 4294967295 }

@@ -1,4 +1,4 @@
--- The reader's state says of the schedule so far what the definitions say of it.
+-- The invariant of the reader's state: its tables hold what the definitions find in the lines so far.
 use Rattle.std.specs.Prelude.{◌≡◌, ℕ, false, List, [], Option, Some, None, nat_eq}
 use Rattle.std.specs.List.{list_any}
 use Rattle.schedule_text.specs.declared.words.Schedule.{Schedule}
@@ -15,7 +15,7 @@ pub record Agrees (r : Reading) : Type 0 where
   pub currencies : r.currencies.keys ≡ currencies r.schedule.setup
   pub limited : r.limited ≡ has_limit r.schedule.setup
 
--- the name, if there is one, is none of these
+-- a new line's name, if it gives one, is none of these names
 abbrev pub IsNewName : List (List ℕ) → Option (List ℕ) → Type 0
 IsNewName names None = Unit {0}
 IsNewName names (Some name) = is_among names name ≡ false

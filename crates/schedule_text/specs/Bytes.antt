@@ -48,7 +48,8 @@ unfoldable pub number_in : ℕ → ℕ → List ℕ → Option ℕ
 number_in low high word =
     option_and_then (λ n. if nat_le low n && nat_le n high then Some n else None) (number_of word)
 
--- what stands before the first such byte, and what stands after it
+-- the word cut at the first byte of this value: what stands before it, and what stands after it; none if the byte is
+-- not there
 unfoldable pub cut_at : ℕ → List ℕ → Option (List ℕ × List ℕ)
 cut_at byte word =
     option_map (λ at. (take at word, drop (at + 1) word)) (position (λ b. b == byte) word)
@@ -61,13 +62,13 @@ has_mark byte word = nat_lt 0 (length word) && slice_index word (length word - 1
 unfoldable pub without_mark : ℕ → List ℕ → List ℕ
 without_mark byte word = if has_mark byte word then take (length word - 1) word else word
 
--- one value of two, if both are there
+-- `f` of two values, if both are there
 abbrev pub with_both : {A B C : Type 0} → Option A → Option B → (A → B → C) → Option C
 with_both None b f = None
 with_both (Some x) None f = None
 with_both (Some x) (Some y) f = Some (f x y)
 
--- the value of each, if each has one
+-- the values of all items, if each has one; else none
 unfoldable pub each_of : {X A : Type 0} → (X → Option A) → List X → Option (List A)
 each_of f [] = Some []
 each_of f (x ∷ xs) = with_both (f x) (each_of f xs) (λ y ys. y ∷ ys)

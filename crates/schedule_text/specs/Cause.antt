@@ -21,13 +21,13 @@ number_of_cause cause.UnknownMember = 11
 number_of_cause cause.WrongRole = 12
 number_of_cause cause.BadOrder = 13
 
--- the code answered what the definition says; that memory was refused says nothing
+-- the answer of the code is the one that the definition gives; an answer that memory was refused says nothing about it
 abbrev pub Reads : {A : Type 0} → Result A LineFault → Result A Cause → Type 0
 Reads (Ok a) said = said ≡ Ok a
 Reads (Err (fault.Bad c)) said = said ≡ Err c
 Reads (Err fault.OutOfMemory) said = Unit {0}
 
--- likewise for a call that leaves the value in place
+-- the same for a call that writes its value into `after` in place of answering it
 abbrev pub ReadsInto : {A : Type 0} → Result (Unit {0}) LineFault → A → Result A Cause → Type 0
 ReadsInto (Ok u) after said = said ≡ Ok after
 ReadsInto (Err (fault.Bad c)) after said = said ≡ Err c

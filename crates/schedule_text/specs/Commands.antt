@@ -11,11 +11,11 @@ use Rattle.schedule_text.specs.declared.words.CommandWord.{CommandWord}
 use Rattle.schedule_text.specs.declared.words.CommandWord.TheVariants as command
 use Rattle.schedule_text.specs.Bytes.{is_digits, number_in, cut_at, has_mark, without_mark, with_both, each_of}
 
--- a place's number
+-- the number of an input, a result or a value of a result: 0 to 65535
 abbrev pub place_of : List ℕ → Option ℕ
 place_of word = number_in 0 65535 word
 
--- `rN` after the letter, or `rN.K`
+-- whether a word after its `r` has the form `N` or `N.K`, where the second argument is the word cut at its `.`
 abbrev pub result_form : List ℕ → Option (List ℕ × List ℕ) → Bool
 result_form word None = is_digits word
 result_form word (Some p) = is_digits p.0 && is_digits p.1
@@ -45,7 +45,7 @@ arg_of word = if bytes_eq word (codes "gas") then Some arg.Gas else place_value 
 abbrev pub comma_parts : List ℕ → List (List ℕ)
 comma_parts inside = slice_split (λ b. b == 44) inside
 
--- the same, if there may be none
+-- the argument words of a native, which may be none: the words between commas, and no word for an empty text
 abbrev pub call_words : List ℕ → List (List ℕ)
 call_words [] = []
 call_words (b ∷ bs) = comma_parts (b ∷ bs)
@@ -89,7 +89,8 @@ abbrev pub vector_value : List (List ℕ) → Option CommandWord
 vector_value [] = None
 vector_value (kind ∷ values) = with_both (kind_of kind) (each_of arg_of values) (λ k vs. command.MakeVec k vs)
 
--- if one word is needed at least, the empty word that stands between `(` and `)` is not an argument
+-- whether what stands between `(` and `)` has the form that this kind of command needs. An empty text counts as one
+-- empty word, which is no argument, so `split`, `merge` and `transfer` need one word at least
 abbrev pub command_form : CommandKind → List ℕ → Bool
 command_form kind.Split inside = list_all is_arg (comma_parts inside)
 command_form kind.Merge inside = list_all is_arg (comma_parts inside)

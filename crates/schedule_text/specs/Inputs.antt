@@ -15,11 +15,11 @@ use Rattle.schedule_text.specs.Refs.{is_ref, ref_of, is_shared}
 abbrev pub is_hex_byte : ℕ → Bool
 is_hex_byte b = is_digit b || (nat_le 97 b && nat_le b 102)
 
--- an even number of such digits
+-- an even number of hexadecimal digits, in lower case
 unfoldable pub is_hex : List ℕ → Bool
 is_hex word = length word % 2 == 0 && list_all is_hex_byte word
 
--- their bytes
+-- the bytes of such digits, two digits a byte
 unfoldable pub hex_of : List ℕ → Option (List ℕ)
 hex_of word = result_ok (decode_of word)
 

@@ -62,7 +62,7 @@ has_limit xs = list_any is_limit xs
 unfoldable pub tx_names : List Event → List (List ℕ)
 tx_names xs = filter_map tx_name xs
 
--- nothing is wrong, or a cause
+-- the result of checking a line: `Ok` if nothing is wrong, else the cause
 abbrev pub Check : Type 0
 Check = Result (Unit {0}) Cause
 
@@ -70,12 +70,12 @@ abbrev pub check : Bool → Cause → Check
 check true c = Ok tt
 check false c = Err c
 
--- the first cause of two checks
+-- two checks one after the other: the cause of the first if it fails, else the result of the second
 abbrev pub also : Check → Check → Check
 also (Ok u) next = next
 also (Err c) next = Err c
 
--- the first cause of a list
+-- a check of each item in order: the cause of the first item that fails
 unfoldable pub each_check : {A : Type 0} → (A → Check) → List A → Check
 each_check f [] = Ok tt
 each_check f (x ∷ xs) = also (f x) (each_check f xs)
@@ -103,7 +103,7 @@ origin_check s (Some tx) = tx_check s tx
 abbrev pub member_check : Schedule → ℕ → Check
 member_check s member = check (nat_lt member (length (roles s.setup))) cause.UnknownMember
 
--- it has this role
+-- whether a member is there and has this role (true: honest)
 abbrev pub role_is : Bool → Option Bool → Bool
 role_is honest None = false
 role_is true (Some role) = role
@@ -113,12 +113,12 @@ abbrev pub role_check : Bool → Schedule → ℕ → Check
 role_check honest s member =
     also (member_check s member) (check (role_is honest (slice_get (roles s.setup) member)) cause.WrongRole)
 
--- the transaction, the members, and their order
+-- a `cert` or `final` line names a known transaction and known members, which ascend
 abbrev pub collect_check : Schedule → List ℕ → List ℕ → Check
 collect_check s tx members =
     also (tx_check s tx) (also (each_check (member_check s) members) (check (ascends members) cause.BadOrder))
 
--- a name that no earlier object has
+-- no earlier line gave this name to an object
 abbrev pub new_object_check : Schedule → List ℕ → Check
 new_object_check s name = check (not (is_among (object_names s.setup) name)) cause.RepeatedName
 
@@ -134,19 +134,19 @@ setup_kind_check s (setup.Writers n) = check (not (has_limit s.setup)) cause.Bad
 unfoldable pub setup_check : Schedule → Setup → Check
 setup_check s x = also (check (length s.events == 0) cause.LateSetup) (setup_kind_check s x)
 
--- a new name, and objects that are known
+-- a `tx` line: there is room for one more transaction, its name is new, and its objects are known
 unfoldable pub new_tx_check : Schedule → List ℕ → ObjWord → List InputWord → Check
 new_tx_check s name gas inputs =
     also (check (nat_lt (length (tx_names s.events)) 65535) cause.TooManyTransactions)
     (also (check (not (is_among (tx_names s.events) name)) cause.RepeatedName)
     (also (object_check s gas) (each_check (input_check s) inputs)))
 
--- a transaction and origins that are known, and a faulty member
+-- an `fvote` line: its transaction and origins are known, and its member is faulty
 unfoldable pub fvote_check : Schedule → ℕ → List ℕ → List (Option (List ℕ)) → Check
 fvote_check s member tx origins =
     also (tx_check s tx) (also (each_check (origin_check s) origins) (role_check false s member))
 
--- only a faulty member spoils an acknowledgement
+-- an `ack` line: its transaction and member are known, and only a faulty member spoils its acknowledgement
 unfoldable pub ack_check : Schedule → ℕ → List ℕ → Bool → Check
 ack_check s member tx spoiled =
     also (tx_check s tx) (if spoiled then role_check false s member else member_check s member)

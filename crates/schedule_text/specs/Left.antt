@@ -1,9 +1,9 @@
--- What is left of a text after a cut.
+-- The rest of a text while it is cut into parts from the left: none once the last part was cut.
 use Rattle.std.specs.Prelude.{◌==◌, ℕ, ◌+◌, List, [], Option, Some, None, length}
 use Rattle.std.specs.Borrow.{Bor}
 use Rattle.std.specs.List.{slice_split}
 
--- its parts between such bytes
+-- the parts of the rest, between bytes of this value; none if nothing is left
 abbrev pub parts_left : ℕ → Option (Bor (List ℕ)) → List (List ℕ)
 parts_left byte None = []
 parts_left byte (Some text) = slice_split (λ b. b == byte) text.now

@@ -20,12 +20,13 @@ use Rattle.schedule_text.specs.Commands.{is_command, command_of}
 abbrev pub words_of : List ℕ → List (List ℕ)
 words_of line = slice_split (λ b. b == 32) line
 
--- a value, or the cause that a number is bad
+-- a value, or the refusal that a number is bad where it is missing
 abbrev pub or_bad_number : {A : Type 0} → Option A → Result A Cause
 or_bad_number None = Err cause.BadNumber
 or_bad_number (Some a) = Ok a
 
--- if the form is there, its value
+-- the value of words that have the form; the refusal that the form is bad where they do not, or that a number is bad
+-- where there is no value
 abbrev pub if_form : {A : Type 0} → Bool → Option A → Result A Cause
 if_form true value = or_bad_number value
 if_form false value = Err cause.BadForm
@@ -77,23 +78,23 @@ writers_line (limit ∷ []) =
     if_form (is_digits limit) (option_map (λ n. statement.Setup (setup.Writers n)) (number_in 1 65535 limit))
 writers_line words = Err cause.BadForm
 
--- the words after the inputs
+-- the words from the first that is no input on
 unfoldable pub after_inputs : List (List ℕ) → List (List ℕ)
 after_inputs [] = []
 after_inputs (word ∷ words) = if is_input word then after_inputs words else word ∷ words
 
--- the inputs at the start
+-- the inputs that the words begin with; none if one of them has a bad number
 unfoldable pub front_inputs : List (List ℕ) → Option (List InputWord)
 front_inputs [] = Some []
 front_inputs (word ∷ words) =
     if is_input word then with_both (input_of word) (front_inputs words) (λ x xs. x ∷ xs) else Some []
 
--- `REF BUDGET`, inputs, commands
+-- whether the words are a gas coin and a budget (`REF BUDGET`), then inputs, then commands
 unfoldable pub block_form : List (List ℕ) → Bool
 block_form (gas ∷ budget ∷ words) = is_ref gas && is_digits budget && list_all is_command (after_inputs words)
 block_form words = false
 
--- an event of the gas, the budget, the inputs and the commands
+-- the `tx` event of this name, sender and epoch, whose other words are gas coin, budget, inputs and commands
 abbrev pub block_words : List ℕ → List ℕ → ℕ → List (List ℕ) → Option Event
 block_words name sender epoch (gas ∷ budget ∷ words) =
     option_and_then (λ g. option_and_then (λ b. option_and_then (λ is.
@@ -111,32 +112,32 @@ tx_line (name ∷ sender ∷ epoch ∷ words) =
     (option_and_then (λ e. block_of name sender e words) (number_of epoch))
 tx_line words = Err cause.BadForm
 
--- `M T`
+-- the values of the words `M T`: a member and a transaction
 unfoldable pub member_and_tx : List (List ℕ) → Result (ℕ × List ℕ) Cause
 member_and_tx (member ∷ tx ∷ []) =
     if_form (is_digits member && is_name tx) (option_map (λ m. (m, tx)) (member_number member))
 member_and_tx words = Err cause.BadForm
 
--- `M`
+-- the value of the word `M`: a member
 unfoldable pub member_alone : List (List ℕ) → Result ℕ Cause
 member_alone (member ∷ []) = if_form (is_digits member) (member_number member)
 member_alone words = Err cause.BadForm
 
--- `M N`, N at least 1
+-- the values of the words `M N`: a member, and a number from 1 to `most`
 unfoldable pub member_and_number : ℕ → List (List ℕ) → Result (ℕ × ℕ) Cause
 member_and_number most (member ∷ number ∷ []) =
     if_form (is_digits member && is_digits number)
     (with_both (member_number member) (number_in 1 most number) (λ m n. (m, n)))
 member_and_number most words = Err cause.BadForm
 
--- `T M` and further members
+-- the values of the words `T M ..`: a transaction, and one member or more
 unfoldable pub tx_and_members : List (List ℕ) → Result (List ℕ × List ℕ) Cause
 tx_and_members (tx ∷ members) =
     if_form (is_name tx && nat_lt 0 (length members) && list_all is_digits members)
     (option_map (λ ms. (tx, ms)) (each_of member_number members))
 tx_and_members words = Err cause.BadForm
 
--- `-` or a transaction
+-- whether the word is an origin: `-`, or a transaction's name
 abbrev pub is_origin : List ℕ → Bool
 is_origin word = bytes_eq word (codes "-") || is_name word
 
@@ -147,19 +148,19 @@ unfoldable pub origins_of : List (List ℕ) → List (Option (List ℕ))
 origins_of [] = []
 origins_of (word ∷ words) = origin_of word ∷ origins_of words
 
--- `M T` and origins
+-- the `fvote` event of the words `M T ..`: a member, a transaction, and origins
 unfoldable pub fvote_line : List (List ℕ) → Result Event Cause
 fvote_line (member ∷ tx ∷ origins) =
     if_form (is_digits member && is_name tx && list_all is_origin origins)
     (option_map (λ m. event.Fvote m tx (origins_of origins)) (member_number member))
 fvote_line words = Err cause.BadForm
 
--- `T` or `commit`
+-- the `order` event of one word: a transaction's name, or `commit`
 unfoldable pub order_tx : List ℕ → Result Event Cause
 order_tx tx =
     if bytes_eq tx (codes "commit") then Ok event.OrderCommit else if_form (is_name tx) (Some (event.Order tx))
 
--- `end M`
+-- the `order end` event of two words: `end`, and a member
 unfoldable pub order_end : List ℕ → List ℕ → Result Event Cause
 order_end word member =
     if_form (bytes_eq word (codes "end") && is_digits member) (option_map (λ m. event.OrderEnd m) (member_number member))
@@ -169,7 +170,7 @@ order_line (tx ∷ []) = order_tx tx
 order_line (word ∷ member ∷ []) = order_end word member
 order_line words = Err cause.BadForm
 
--- whether the record is kept
+-- what a stop does with the next record: `kept` is true, `lost` false, and any other word no value
 abbrev pub kept_of : List ℕ → Option Bool
 kept_of word =
     if bytes_eq word (codes "kept") then Some true
@@ -183,7 +184,7 @@ unfoldable pub stop_line : List (List ℕ) → Result Event Cause
 stop_line (member ∷ kept ∷ []) = stop_event member (kept_of kept)
 stop_line words = Err cause.BadForm
 
--- whether the bytes go to `vote`; else to `hold`
+-- the call that a `raw` line makes: `vote` is true, `hold` false, and any other word no value
 abbrev pub call_of : List ℕ → Option Bool
 call_of word =
     if bytes_eq word (codes "vote") then Some true
@@ -203,7 +204,7 @@ unfoldable pub raw_line : List (List ℕ) → Result Event Cause
 raw_line (member ∷ call ∷ bytes ∷ []) = raw_event member (call_of call) bytes
 raw_line words = Err cause.BadForm
 
--- `M T`, and `!` or nothing
+-- the `ack` event of a member and a transaction, with whether its digest is spoiled
 unfoldable pub ack_event : List ℕ → List ℕ → Bool → Result Event Cause
 ack_event member tx spoiled =
     if_form (is_digits member && is_name tx) (option_map (λ m. event.Ack m tx spoiled) (member_number member))
@@ -213,7 +214,7 @@ ack_line (member ∷ tx ∷ []) = ack_event member tx false
 ack_line (member ∷ tx ∷ mark ∷ []) = if bytes_eq mark (codes "!") then ack_event member tx true else Err cause.BadForm
 ack_line words = Err cause.BadForm
 
--- the lines whose first word is followed by a member
+-- the event of a line whose second word is a member
 unfoldable pub member_event : List ℕ → List (List ℕ) → Result Event Cause
 member_event word words =
     if bytes_eq word (codes "see") then then_make (λ p. event.See p.0 p.1) (member_and_number 4294967295 words)
@@ -227,7 +228,7 @@ member_event word words =
     else (if bytes_eq word (codes "raw") then raw_line words
     else Err cause.BadForm))))))))
 
--- the lines that name a transaction
+-- the event of any event line: those that may name a transaction here, the others by `member_event`
 unfoldable pub event_of : List ℕ → List (List ℕ) → Result Event Cause
 event_of word words =
     if bytes_eq word (codes "tx") then tx_line words
@@ -240,7 +241,7 @@ event_of word words =
     else (if bytes_eq word (codes "final") then then_make (λ p. event.Final p.0 p.1) (tx_and_members words)
     else member_event word words)))))))
 
--- the line of these words, or cause 4 or 5
+-- the set-up line or event that these words are, or cause 4 (bad form) or 5 (bad number)
 unfoldable pub statement_of : List (List ℕ) → Result Statement Cause
 statement_of [] = Err cause.BadForm
 statement_of (word ∷ words) =

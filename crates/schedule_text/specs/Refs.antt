@@ -7,7 +7,7 @@ use Rattle.schedule_text.specs.declared.words.ObjWord.TheVariants as object
 use Rattle.schedule_text.specs.declared.words.RefWord.{RefWord}
 use Rattle.schedule_text.specs.Bytes.{is_name, is_digits, number_of, cut_at, has_mark, without_mark, with_both}
 
--- the parts round a `.`, if there is one
+-- whether a word has the form `NAME` or `T.N`; the second argument is the word cut at its `.`, if it has one
 abbrev pub object_form : List ℕ → Option (List ℕ × List ℕ) → Bool
 object_form word None = is_name word
 object_form word (Some p) = is_name p.0 && is_digits p.1
@@ -22,7 +22,7 @@ is_object word = object_form word (cut_at 46 word)
 unfoldable pub object_of : List ℕ → Option ObjWord
 object_of word = object_value word (cut_at 46 word)
 
--- the parts round the `@`, with a `!` at the end or without
+-- whether a word, cut at its `@`, has the form `OBJ@V` or `OBJ@V!`
 abbrev pub ref_form : Option (List ℕ × List ℕ) → Bool
 ref_form None = false
 ref_form (Some p) = is_object p.0 && is_digits (without_mark 33 p.1)
@@ -39,7 +39,7 @@ is_ref word = ref_form (cut_at 64 word)
 unfoldable pub ref_of : List ℕ → Option RefWord
 ref_of word = ref_value (cut_at 64 word)
 
--- a reference that has no `!`
+-- whether a word, cut at its `@`, has the form `OBJ@V` with no `!` at the end
 abbrev pub shared_form : Option (List ℕ × List ℕ) → Bool
 shared_form None = false
 shared_form (Some p) = is_object p.0 && is_digits p.1

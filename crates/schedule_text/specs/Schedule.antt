@@ -15,12 +15,12 @@ use Rattle.schedule_text.specs.Cause.{number_of_cause}
 use Rattle.schedule_text.specs.Known.{add_line}
 use Rattle.schedule_text.specs.Lines.{words_of, statement_of}
 
--- the line of a bad line, from 1, or 0 for the whole text; and the number of the cause
+-- a refusal: the number of the bad line, from 1, or 0 for the whole text; and the number of the cause
 pub record Refused : Type 0 where
   pub line : ℕ
   pub cause : ℕ
 
--- the bytes of a schedule, at most
+-- the most bytes of a schedule
 abbrev pub longest_text : ℕ
 longest_text = 16777216
 
@@ -46,7 +46,7 @@ read_line s line =
     if is_skipped line then Ok s
     else (if list_all is_printable line then add_statement s (statement_of (words_of line)) else Err cause.BadByte)
 
--- go on, or refuse the line
+-- goes on with a value, or refuses the line of this number with its cause
 abbrev pub or_refuse : {A B : Type 0} → Result A Cause → ℕ → (A → Result B Refused) → Result B Refused
 or_refuse (Ok a) line next = next a
 or_refuse (Err c) line next = Err (record { line = line; cause = number_of_cause c })
@@ -63,12 +63,12 @@ schedule_of text =
     else (if list_any begins_member (lines_of text) then read_lines 1 no_lines (lines_of text)
     else Err (record { line = 0; cause = number_of_cause cause.NoMembers }))
 
--- the refusal is the definition's; that memory was refused says nothing
+-- the reader's refusal is the definition's; a refusal because memory ran out says nothing about the definition
 abbrev pub RefusesWith : Result Schedule Refused → ScheduleRefusal → Type 0
 RefusesWith said (refusal.Refused line cause) = said ≡ Err (record { line = line; cause = cause })
 RefusesWith said refusal.OutOfMemory = Unit {0}
 
--- how the code answers a line's fault
+-- the reader's refusal for a fault in the line of this number
 abbrev pub refusal_of : ℕ → LineFault → ScheduleRefusal
 refusal_of line (fault.Bad c) = refusal.Refused line (number_of_cause c)
 refusal_of line fault.OutOfMemory = refusal.OutOfMemory

@@ -115,7 +115,7 @@ pub fn number_in(low: u64, high: u64, word: &[u8]) -> Option<u64>
     number_of(word).filter(|number| low <= *number && *number <= high)
 }
 
-/// The place of the first such byte.
+/// The place of the first byte of this value; none if it is not there.
 fn place_of(byte: u8, word: &[u8]) -> Option<usize>
     ensures value { result ≡ position (λ b. b == byte) word.now }
     ensures low { IfSome result (λ at. at < length word.now) }
@@ -123,7 +123,8 @@ fn place_of(byte: u8, word: &[u8]) -> Option<usize>
     word.iter().position(|b| *b == byte)
 }
 
-/// What stands before the first such byte, and what stands after it.
+/// Cuts the word at the first byte of this value: what stands before it, and what stands after it; none if it is not
+/// there.
 #[tactic(auto, unfolding(crate::specs::Bytes::cut_at))]
 pub(crate) fn cut_at(byte: u8, word: &[u8]) -> Option<(&[u8], &[u8])>
     ensures value { option_map (λ p. (p.0.now, p.1.now)) result ≡ cut_at byte word.now }
@@ -133,7 +134,7 @@ pub(crate) fn cut_at(byte: u8, word: &[u8]) -> Option<(&[u8], &[u8])>
     Some((&word[..at], &word[at + 1..]))
 }
 
-/// The first part of the text between such bytes, and what follows it.
+/// The part before the first byte of this value, and the rest after it; the whole text and no rest if it is not there.
 pub(crate) fn cut_part(byte: u8, text: &[u8]) -> (&[u8], Option<&[u8]>)
     ensures parts { slice_split (λ b. b == byte) text.now ≡ result.0.now ∷ parts_left byte result.1 }
     ensures shorter { size_left result.1 ≤ length text.now }
@@ -164,7 +165,7 @@ pub(crate) fn without_mark(byte: u8, word: &[u8]) -> &[u8]
     }
 }
 
-/// The parts between such bytes.
+/// The parts of the text between bytes of this value.
 pub(crate) fn parts_of(alloc: Global, byte: u8, text: &[u8]) -> Result<Vec<&[u8]>, OutOfMemory>
     ensures { IfOk result (λ v. map (λ x. x.now) v.items ≡ slice_split (λ b. b == byte) text.now) }
 {

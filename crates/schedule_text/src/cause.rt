@@ -62,7 +62,7 @@ impl Cause {
 /// Why a line was not read.
 #[derive(Clone, Copy, Debug, PartialEq, Eq)]
 pub(crate) enum LineFault {
-    /// The line is bad.
+    /// The line is not part of a schedule, for this cause.
     Bad(Cause),
     /// Memory was refused.
     OutOfMemory,

@@ -13,7 +13,7 @@ use chain_types::{NATIVES, Native};
 use std::alloc::Global;
 use wire_bcs::{OutOfMemory, Seq};
 
-/// What a command is.
+/// The kind of a command, by its name.
 #[derive(Clone, Copy)]
 pub(crate) enum CommandKind {
     Split,
@@ -27,7 +27,7 @@ pub(crate) enum CommandKind {
 /// The kinds of a vector's values, by number.
 static KINDS: [&[u8]; 6] = [b"coin", b"cap", b"counter", b"vault", b"key", b"limit"];
 
-/// The place of a name among these.
+/// The place of a name in the list; none if it is not there.
 fn place_among(names: &[&[u8]], name: &[u8]) -> Option<usize>
     ensures value { result ≡ position (λ n. bytes_eq n.now name.now) names.now }
     ensures low { IfSome result (λ place. place < length names.now) }
@@ -59,7 +59,7 @@ fn kind_of(name: &[u8]) -> Option<u8>
     Some(place as u8)
 }
 
-/// The number of a place.
+/// The number of an input, a result or a value of a result: 0 to 65535.
 fn place_of(word: &[u8]) -> Option<u16>
     ensures { result ≡ place_of word.now }
 {
@@ -184,7 +184,7 @@ fn args_of(alloc: Global, mut left: Option<&[u8]>) -> Result<Option<Seq<ArgWord>
     Ok(Some(args))
 }
 
-/// What is to be cut at commas, if it may be nothing.
+/// The text to be cut at commas for a native's arguments: none if it is empty, since a native may have no arguments.
 fn call_words(inside: &[u8]) -> Option<&[u8]>
     ensures { parts_left 44 result ≡ call_words inside.now }
 {

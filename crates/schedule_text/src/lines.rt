@@ -40,7 +40,7 @@ fn role_word(word: &[u8]) -> Option<bool>
     }
 }
 
-/// `STAKE` and a role.
+/// The set-up line of a stake's word and a role; bad form if there is no role.
 fn member_setup(stake: &[u8], role: Option<bool>) -> Result<Statement, LineFault>
     ensures { Reads result (member_setup stake.now role) }
 {
@@ -149,7 +149,7 @@ fn writers_line(words: &[&[u8]]) -> Result<Statement, LineFault>
     Ok(Statement::Setup(Setup::Writers(limit as u32)))
 }
 
-/// The words after the inputs.
+/// The words from the first that is no input on.
 #[tactic(auto, unfolding(crate::specs::Lines::after_inputs))]
 fn after_inputs<'a, 'b>(words: &'b [&'a [u8]]) -> &'b [&'a [u8]]
     ensures { map (λ w. w.now) result.now ≡ after_inputs (map (λ w. w.now) words.now) }
@@ -164,7 +164,7 @@ fn after_inputs<'a, 'b>(words: &'b [&'a [u8]]) -> &'b [&'a [u8]]
     rest
 }
 
-/// The inputs at the start.
+/// The inputs that the words begin with; none if one of them has a bad number.
 #[tactic(auto, using(crate::proofs::Each::each_more, crate::proofs::Each::after_none), unfolding(crate::specs::Lines::front_inputs))]
 fn front_inputs(alloc: Global, words: &[&[u8]]) -> Result<Option<Seq<InputWord>>, OutOfMemory>
     ensures { IfOk result (λ r. r ≡ front_inputs (map (λ w. w.now) words.now)) }
@@ -366,7 +366,7 @@ fn tx_line(alloc: Global, words: &[&[u8]]) -> Result<Event, LineFault>
     Ok(event)
 }
 
-/// `M T`.
+/// Reads the words `M T`: a member and a transaction.
 #[tactic(auto, unfolding(crate::specs::Lines::member_and_tx))]
 fn member_and_tx(alloc: Global, words: &[&[u8]]) -> Result<(u32, Seq<u8>), LineFault>
     ensures { Reads result (member_and_tx (map (λ w. w.now) words.now)) }
@@ -383,7 +383,7 @@ fn member_and_tx(alloc: Global, words: &[&[u8]]) -> Result<(u32, Seq<u8>), LineF
     Ok((member, Seq::from_slice(alloc, tx)?))
 }
 
-/// `M`.
+/// Reads the word `M`: a member.
 #[tactic(auto, unfolding(crate::specs::Lines::member_alone))]
 fn member_alone(words: &[&[u8]]) -> Result<u32, LineFault>
     ensures { Reads result (member_alone (map (λ w. w.now) words.now)) }
@@ -400,7 +400,7 @@ fn member_alone(words: &[&[u8]]) -> Result<u32, LineFault>
     Ok(member)
 }
 
-/// `M N`, N from 1 to `most`.
+/// Reads the words `M N`: a member, and a number from 1 to `most`.
 #[tactic(auto, unfolding(crate::specs::Lines::member_and_number))]
 fn member_and_number(most: u32, words: &[&[u8]]) -> Result<(u32, u32), LineFault>
     ensures { Reads result (member_and_number most (map (λ w. w.now) words.now)) }
@@ -420,7 +420,7 @@ fn member_and_number(most: u32, words: &[&[u8]]) -> Result<(u32, u32), LineFault
     Ok((member, number as u32))
 }
 
-/// `T M` and further members.
+/// Reads the words `T M ..`: a transaction, and one member or more.
 #[tactic(auto, unfolding(crate::specs::Lines::tx_and_members))]
 fn tx_and_members(alloc: Global, words: &[&[u8]]) -> Result<(Seq<u8>, Seq<u32>), LineFault>
     ensures { Reads result (tx_and_members (map (λ w. w.now) words.now)) }
@@ -498,7 +498,7 @@ fn order_line(alloc: Global, words: &[&[u8]]) -> Result<Event, LineFault>
     }
 }
 
-/// Whether the record is kept.
+/// What a stop does with the next record: `kept` is true, `lost` false, and any other word no value.
 fn kept_of(word: &[u8]) -> Option<bool>
     ensures { result ≡ kept_of word.now }
 {
@@ -538,7 +538,7 @@ fn stop_line(words: &[&[u8]]) -> Result<Event, LineFault>
     stop_event(member, kept_of(kept))
 }
 
-/// Whether the bytes go to `vote`; else to `hold`.
+/// The call that a `raw` line makes: `vote` is true, `hold` false, and any other word no value.
 fn call_of(word: &[u8]) -> Option<bool>
     ensures { result ≡ call_of word.now }
 {
@@ -626,7 +626,7 @@ fn ack_line(alloc: Global, words: &[&[u8]]) -> Result<Event, LineFault>
     }
 }
 
-/// The lines whose first word is followed by a member.
+/// The event of a line whose second word is a member.
 #[tactic(auto, unfolding(crate::specs::Lines::member_event))]
 fn member_event(alloc: Global, word: &[u8], words: &[&[u8]]) -> Result<Event, LineFault>
     ensures { Reads result (member_event word.now (map (λ w. w.now) words.now)) }
@@ -663,7 +663,7 @@ fn member_event(alloc: Global, word: &[u8], words: &[&[u8]]) -> Result<Event, Li
     Err(LineFault::Bad(Cause::BadForm))
 }
 
-/// The lines that name a transaction, and the others.
+/// The event of any event line.
 #[tactic(auto, unfolding(crate::specs::Lines::event_of))]
 fn event_of(alloc: Global, word: &[u8], words: &[&[u8]]) -> Result<Event, LineFault>
     ensures { Reads result (event_of word.now (map (λ w. w.now) words.now)) }

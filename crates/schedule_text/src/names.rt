@@ -25,7 +25,7 @@ impl Model for Names {
 }
 
 impl Names {
-    /// No names.
+    /// An empty list of names.
     pub(crate) fn new(alloc: Global) -> Names
         ensures { result ≡ [] }
     {

@@ -17,7 +17,7 @@ use crate::statement::Statement;
 use crate::words::{Schedule, ScheduleRefusal};
 use std::alloc::Global;
 
-/// The bytes of a schedule, at most.
+/// The most bytes of a schedule.
 const LONGEST_TEXT: usize = 16_777_216;
 
 fn is_skipped(line: &[u8]) -> bool

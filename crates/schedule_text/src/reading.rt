@@ -14,10 +14,10 @@ use indexmap::IndexSet;
 use std::alloc::Global;
 use wire_bcs::{OutOfMemory, Seq, ascends};
 
-/// The members of a committee, at most.
+/// The most members of a committee.
 const MOST_MEMBERS: u64 = 64;
 
-/// The transactions of a schedule, at most.
+/// The most transactions of a schedule.
 const MOST_TRANSACTIONS: usize = 65_535;
 
 /// The schedule so far. The other fields say the same about it, each in a form that answers fast.
@@ -43,7 +43,7 @@ fn check(holds: bool, cause: Cause) -> Result<(), Cause>
 }
 
 impl Reading {
-    /// No lines.
+    /// The state before the first line.
     #[tactic(auto, unfolding(crate::specs::Known::roles, crate::specs::Known::object_names, crate::specs::Known::tx_names, crate::specs::Known::currencies, crate::specs::Known::has_limit))]
     pub(crate) fn new(alloc: Global) -> Reading
         ensures empty { result.schedule ≡ no_lines }

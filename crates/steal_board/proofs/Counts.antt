@@ -138,7 +138,7 @@ owing_paid paid paid' es e lt none one same =
     let t = target_to es e lt in
     let h = total_times (λ x. 1 - paid x) (λ x. 1 - paid' x) e (places_to es (target es e)) (λ x ne. let s = same x ne in omega (arith, s)) (omega (arith, none, one)) in omega (arith, t, h)
 
--- and other tasks are owed what they were
+-- a task that is not the target of the paid edge is owed what it was
 pub owing_other : (paid paid' : ℕ → ℕ) (es : List Edge) (e t : ℕ) → t ≢ target es e → ((x : ℕ) → x ≢ e → paid' x ≡ paid x) → owing paid' es t ≡ owing paid es t
 owing_other paid paid' es e t ne same = total_pointwise (λ x. 1 - paid' x) (λ x. 1 - paid x) (places_to es t)
     (λ x h. let q = (to_target es t x h).1 in let s = same x (λ is. ne (sym q ∙ ap (target es) is)) in omega (arith, s))

@@ -22,7 +22,7 @@ use Rattle.steal_board.proofs.Counts.{total_set, total_same, total_push, total_o
 use Rattle.steal_board.proofs.Agreeing.{unclaimed, is_claimed, won_agrees, lost_agrees, turned_agrees, taken_agrees, returned_agrees, paid_agrees, target_owed}
 use Rattle.steal_board.proofs.Fitting.{fit_mine, fit_gone, fit_ready, fit_share, fit_turning, fit_taken, fit_settling, fit_joined, fit_new, fit_spent}
 
--- the same words and slots agree with the same counts
+-- words and slots agree with other counts that are equal to these
 agrees_at : {T : Type 0} (p : Paper T) (ws : List ℕ) (hs : List (Maybe.Option (Option T))) (M U P K R G M' U' P' K' R' G' : ℕ → ℕ) → M' ≡ M → U' ≡ U → P' ≡ P → K' ≡ K → R' ≡ R → G' ≡ G → Agrees p ws hs M U P K R G → Agrees p ws hs M' U' P' K' R' G'
 agrees_at p ws hs M U P K R G M' U' P' K' R' G' m u q k r g =
     subst (λ (F : (ℕ → ℕ) × (ℕ → ℕ) × (ℕ → ℕ) × (ℕ → ℕ) × (ℕ → ℕ) × (ℕ → ℕ)). Agrees p ws hs F.0 F.1 F.2 F.3 F.4 F.5) (λ i. (sym m i, sym u i, sym q i, sym k i, sym r i, sym g i))

@@ -1,4 +1,5 @@
--- What each step reports to its caller: of the word's number, the seat before, the number found and the seat after.
+-- What each step of the table tells its caller: a relation between the step (which word, and its number), the seat
+-- before, the number that was found in the word, and the seat after.
 use Rattle.std.specs.Prelude.{◌≡◌, ◌≢◌, ℕ, ◌<◌, ◌≤◌, ◌∷◌, Option, Some, None, if◌then◌else◌, ◌==◌}
 use Rattle.atomic_table.specs.Table.{Me, Step, rest}
 use Rattle.dag_core.specs.Places.{times}

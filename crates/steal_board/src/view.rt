@@ -1,4 +1,4 @@
-//! What a seat knows. It exists only for contracts: no value of these types is made.
+//! What the holder of a seat knows of the board. It exists only for contracts: no value of these types is made.
 
 use dag_core::Edge;
 use std::collections::LinkedList;

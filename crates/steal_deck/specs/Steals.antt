@@ -1,4 +1,4 @@
--- What a steal reports to its thief.
+-- What a thief knows of its deck after a steal, by the answer.
 use Rattle.std.specs.Prelude.{◌≡◌, [], ◌∷◌}
 use Rattle.steal_deck.specs.Deck.{Takes}
 use Rattle.steal_deck.specs.declared.rule.Track.{Track}

@@ -20,7 +20,7 @@ pub struct Track {
     pub taken: LinkedList<u64>,
 }
 
-/// The rule of every deck.
+/// The rule of every deck, `InOrder`, as a type.
 pub struct Line;
 
 impl Protocol<u64, Track> for Line {
@@ -31,7 +31,7 @@ impl Protocol<u64, Track> for Line {
     ghost guest = { new_thief };
 }
 
-/// One item joins at the back.
+/// The step of a push: one item joins at the back.
 pub struct Pushing;
 
 impl Outcome<u64, Track> for Pushing {
@@ -40,7 +40,7 @@ impl Outcome<u64, Track> for Pushing {
     ghost then = { λ v items w. w ≡ record v { pushed = v.pushed ++ items } };
 }
 
-/// One item leaves at the front.
+/// The step of a pop or a steal: one item leaves at the front.
 pub struct Taking;
 
 impl Outcome<u64, Track> for Taking {
@@ -49,7 +49,7 @@ impl Outcome<u64, Track> for Taking {
     ghost empty = { IsAllTaken };
 }
 
-/// A thief comes.
+/// The step of making a thief.
 pub struct Sharing;
 
 impl Split<Track> for Sharing {
@@ -58,7 +58,7 @@ impl Split<Track> for Sharing {
     ghost right = { λ v. new_thief };
 }
 
-/// A thief goes, and its hand counts what it took.
+/// The step of taking a thief back: its hand counts what the thief took as its own.
 pub struct Returning;
 
 impl Join<Track> for Returning {
@@ -69,7 +69,7 @@ impl Join<Track> for Returning {
     ghost spent = { new_thief };
 }
 
-/// No push was taken twice.
+/// A consequence of the rule that callers may use: no push was taken twice.
 pub struct Once;
 
 impl Lesson<u64, Track> for Once {

@@ -21,8 +21,8 @@ abbrev pub Grows : Option Records → Option Records → List ℕ → Type 0
 Grows None new bytes = ⊤
 Grows (Some records) new bytes = new ≡ Some (records ++ bytes ∷ [])
 
--- what an append does: at Ok the record stands, after a fault it stands or does not, and if memory was refused
--- the records are as they were
+-- what an append does to observable records: at `Ok` the record is added, after a fault it is added or not, and if
+-- memory was refused the records are as they were
 abbrev pub Adds : Option Records → Option Records → List ℕ → Result (Unit {0}) OutFault → Type 0
 Adds old new bytes result = MatchResult result (λ _. Grows old new bytes) (after_fault old new bytes)
   where
@@ -53,19 +53,20 @@ alone member records = replicate member [] ++ records ∷ []
 abbrev pub as_lists : ℕ → Option Records → Option Journals
 as_lists member records = option_map (alone member) records
 
--- these are the observable records
+-- these are the records, if they are observable
 abbrev pub AreAll : Option Records → List (List ℕ) → Type 0
 AreAll None kept = ⊤
 AreAll (Some records) kept = kept ≡ records
 
 -- ---- what a call of a member keeps
 
--- the due record stands after the others
+-- the record that is due, if one is, was added after the others
 abbrev pub KeepsDue : Option Records → Option Records → Option Record → Type 0
 KeepsDue before now None = Stays before now
 KeepsDue before now (Some x) = Grows before now (journals.journal_record.spell x)
 
--- if a call answers, its due record stands; if the member fell, it stands or nothing does
+-- what a call leaves in observable records: if it answers, its due record was added; if the member fell, that record
+-- was added or nothing was
 abbrev pub Kept : Option Records → Option Records → Option Record → Ended → Type 0
 Kept before now due answered = KeepsDue before now due
 Kept before now due fell = KeepsDue before now due ⊎ Stays before now

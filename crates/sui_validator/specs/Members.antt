@@ -17,7 +17,7 @@ use Rattle.sui_validator.specs.Journals.{Records, Stays}
 use Rattle.sui_validator.specs.declared.opening.OpenRefusal.{OpenRefusal}
 use Rattle.sui_validator.specs.declared.opening.OpenRefusal.TheVariants as no_open
 
--- its seat, and what it keeps records in and seals with
+-- a member's seat, the journal that keeps its records, and the sealer that makes its seals
 pub record Seating (J S : Type 0) : Type 0 where
   pub seat : Seated
   pub journal : J
@@ -31,12 +31,12 @@ ids_of objects = map (λ (o : Object). o.id) objects
 
 -- ---- how a member is opened
 
--- the state after these records, if they are observable
+-- this is the state in which a member starts from its records, or why it does not, if the records are observable
 abbrev pub StartsFrom : Rules → List Object → Option Records → Result Member StartRefusal → Type 0
 StartsFrom rules opening None said = ⊤
 StartsFrom rules opening (Some records) said = started rules opening records ≡ said
 
--- the member of this number is up, in the state after the records, which stay
+-- the member of this number is up, in the state in which it starts from its records; the journal stays as it was
 pub record IsOpened (terms : Terms) (accepts : Signer → List ℕ → Digest → Bool) (opening : List Object) (number : ℕ) (before now : Option Records) (seat : Seated) : Type 0 where
   pub state : StartsFrom (rules_for terms accepts) opening before (Ok seat.state)
   pub member : seat.member ≡ number

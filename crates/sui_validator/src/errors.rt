@@ -1,4 +1,4 @@
-//! Why a call did not do what was asked, in sentences.
+//! The [`Error`] of any call of this crate, with a sentence for each cause.
 
 ghost use Rattle.std.specs.Prelude.{◌≡◌};
 ghost use Rattle.sui_validator.specs.declared.errors.Error.TheVariants as errors;
@@ -29,7 +29,7 @@ pub enum Error {
     End(EndRefusal),
     Turn(TurnRefusal),
     Ack(AckRefusal),
-    /// Stakes are not a committee.
+    /// The stakes are not those of a committee.
     Committee(CommitteeRefusal),
     /// A disk is not opened as a journal.
     Disk(DiskRefusal),

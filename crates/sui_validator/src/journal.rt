@@ -1,4 +1,4 @@
-//! Where one member keeps its records.
+//! The [`Journal`] trait: where one member keeps its records; and the first list of a keeper as a journal.
 
 ghost use Rattle.std.specs.Prelude.{◌≡◌, ◌==◌, ◌<◌, ◌^◌, ℕ, List, Option, Some, None, IfOk, if◌then◌else◌, length};
 ghost use Rattle.outside.specs.Causes.{KeepCause};

@@ -7,7 +7,8 @@ use crate::journal::Journal;
 use outside::{Keeper, OutFault};
 use wire_bcs::Seq;
 
-/// The records of one member; the members before it have none, and no other can keep one.
+/// The journal of one member as a keeper: the lists of members before it are empty, and no other member can keep a
+/// record.
 #[derive(Drop)]
 pub(crate) struct Sole<J: Journal> {
     pub(crate) journal: J,

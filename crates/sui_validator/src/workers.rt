@@ -1,4 +1,4 @@
-//! How many threads execute.
+//! The number of threads that execute.
 
 ghost use Rattle.std.specs.Prelude.{◌≡◌, ◌<◌, ◌≤◌};
 ghost use Rattle.sui_validator.specs.Members.{workers_of};

@@ -3,7 +3,7 @@ use Rattle.std.specs.Prelude.{◌≡◌, ℕ, Bool, List, ◌∷◌, [], ◌++�
 use Rattle.std.specs.Map.{lookup}
 use Rattle.digest_core.specs.declared.Digest.{Digest}
 
--- two digests are one
+-- two digests have the same bytes
 abbrev pub same_digest : Digest → Digest → Bool
 same_digest a b = bytes_eq a.0 b.0
 

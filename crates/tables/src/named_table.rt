@@ -10,7 +10,7 @@ use std::alloc::Global;
 use std::marker::Model;
 use wire_bcs::OutOfMemory;
 
-/// A row with a name too.
+/// A row that is found by a name as well as by a digest.
 pub trait Named: Keyed {
     ghost name_of: { Self → List ℕ };
 

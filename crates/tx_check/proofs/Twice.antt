@@ -34,7 +34,7 @@ module _ {A : Type 0} (same : A → A → Bool) (symmetric : (x y : A) → same 
       ap (λ b. b || repeats same (xs ++ y ∷ [])) (none_later x y xs (or_false_left (list_any (same x) xs) (repeats same xs) once) (symmetric x y ∙ or_false_left (same y x) (list_any (same y) xs) new))
       ∙ still_once y xs (or_false_right (same y x) (list_any (same y) xs) new) (or_false_right (list_any (same x) xs) (repeats same xs) once)
 
--- likewise for ids
+-- the two lemmas for ids: an id that is seen comes twice if it comes again, and a new one does not
 pub id_found : (id : ObjectId) (seen rest : List ObjectId) → list_any (id_eq id) seen ≡ true → repeats id_eq (seen ++ id ∷ rest) ≡ true
 id_found id seen rest e = found_twice id_eq id_turned id seen rest e
 

@@ -1,4 +1,4 @@
--- What a check answered against what the definition says.
+-- How the result of a check in code relates to the definition's fault.
 use Rattle.std.specs.Prelude.{◌≡◌, ℕ, Option, Some, None, Result, Ok, Err}
 use Rattle.tx_check.specs.declared.fault.ShapeFault.{ShapeFault}
 use Rattle.tx_check.specs.declared.fault.ShapeFault.TheVariants as faults
@@ -20,7 +20,7 @@ number_of_fault faults.Poor = 10
 number_of_fault faults.BadVersion = 11
 number_of_fault faults.TooManyArguments = 12
 
--- memory was refused, or the answer is the fault that is said
+-- Ok exactly if the definition has no fault, else its fault; if memory was refused nothing is said
 abbrev pub Checks : {X : Type 0} → Result X ShapeRefusal → Option ℕ → Type 0
 Checks (Ok x) fault = fault ≡ None
 Checks (Err (refusal.Invalid number)) fault = fault ≡ Some number

@@ -1,4 +1,5 @@
--- Transactions that may have a long encoding: with many inputs or commands, or a long one.
+-- A cheap test of size: a transaction without bulk encodes to at most 131,072 bytes. Bulk is more than 128 inputs or
+-- 300 commands, a pure input of more than 128 bytes, or a command with more than 64 listed arguments.
 use Rattle.std.specs.Prelude.{ℕ, Bool, ◌||◌, nat_lt, length}
 use Rattle.std.specs.List.{list_any}
 use Rattle.chain_types.specs.declared.objects.ObjectRef.{ObjectRef}

@@ -1,4 +1,5 @@
--- The parts in which a transaction is looked at.
+-- How the code splits the search for the least fault of a shape: arguments, repeated ids, and the faults in two
+-- groups.
 use Rattle.std.specs.Prelude.{ℕ, Bool, true, false, ◌||◌, List, [], ◌∷◌, ◌++◌, Option, Some, None, if◌then◌else◌}
 use Rattle.std.specs.List.{list_any}
 use Rattle.chain_types.specs.declared.transactions.Argument.{Argument}

@@ -52,7 +52,7 @@ fn any_late(here: usize, arguments: &[Argument]) -> bool
     false
 }
 
-/// The argument of a command that stands beside its list.
+/// The argument of a command outside its list: a Transfer's address, a Split's coin, a Merge's target.
 fn lone_of(command: &Command) -> Option<Argument>
     ensures { result ≡ lone_of command.now }
 {

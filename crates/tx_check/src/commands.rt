@@ -1,4 +1,4 @@
-//! What the commands of a transaction have in common.
+//! Faults of a transaction's commands, each as a test whether one of them has it.
 
 ghost use Rattle.std.specs.Prelude.{◌≡◌, length, nat_lt};
 ghost use Rattle.std.specs.List.{enumerate_from, list_any};

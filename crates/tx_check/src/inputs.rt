@@ -1,4 +1,4 @@
-//! What the inputs of a transaction have in common.
+//! Versions that no object has, among the gas coin and the inputs of a transaction.
 
 ghost use Rattle.std.specs.Prelude.{◌≡◌};
 ghost use Rattle.std.specs.List.{list_any};

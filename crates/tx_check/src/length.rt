@@ -1,4 +1,6 @@
-//! How long the encoding of a transaction is.
+//! Whether the encoding of a transaction is longer than 131,072 bytes. Only one with bulk is encoded to find out: more
+//! than 128 inputs or 300 commands, a pure input of more than 128 bytes, or a command with more than 64 listed
+//! arguments.
 
 ghost use Rattle.std.specs.Prelude.{◌≡◌, IfOk, length, nat_lt};
 ghost use Rattle.std.specs.List.{list_any};
@@ -10,14 +12,15 @@ use chain_types::{Command, Input, ObjectRef, Transaction, encode_tx, has_long_li
 use std::alloc::Global;
 use wire_bcs::OutOfMemory;
 
-/// Whether a reference is long. None is: an array of 32 bytes has no other length, and the compiler knows that.
+/// Whether a reference is long. None is, since its arrays have 32 bytes; the definition sees lists, which might be
+/// longer.
 fn is_bulky_ref(reference: &ObjectRef) -> bool
     ensures { result ≡ is_bulky_ref reference.now }
 {
     reference.id.0.0.as_slice().len() > 32 || reference.digest.0.as_slice().len() > 32
 }
 
-/// Whether an input is long.
+/// Whether an input has bulk: more than 128 pure bytes.
 fn is_bulky_input(input: &Input) -> bool
     ensures { result ≡ is_bulky_input input.now }
 {
@@ -29,7 +32,7 @@ fn is_bulky_input(input: &Input) -> bool
     }
 }
 
-/// Whether one of the inputs is long.
+/// Whether one of the inputs has bulk.
 fn any_bulky_input(inputs: &[Input]) -> bool
     ensures { result ≡ list_any is_bulky_input inputs.now }
 {
@@ -41,14 +44,14 @@ fn any_bulky_input(inputs: &[Input]) -> bool
     false
 }
 
-/// Whether a command is long.
+/// Whether a command has bulk: more than 64 arguments or amounts in its list.
 fn is_bulky_command(command: &Command) -> bool
     ensures { result ≡ is_bulky_command command.now }
 {
     listed_of(command).len() > 64
 }
 
-/// Whether one of the commands is long.
+/// Whether one of the commands has bulk.
 fn any_bulky_command(commands: &[Command]) -> bool
     ensures { result ≡ list_any is_bulky_command commands.now }
 {
@@ -60,8 +63,7 @@ fn any_bulky_command(commands: &[Command]) -> bool
     false
 }
 
-/// Whether a transaction has many inputs or commands, or a long one. The encoding of one that has none is not longer
-/// than 131,072 bytes.
+/// Whether a transaction has bulk. Without it, its encoding has at most 131,072 bytes.
 fn has_bulk(tx: &Transaction) -> bool
     ensures { result ≡ has_bulk tx.now }
 {
@@ -73,8 +75,8 @@ fn has_bulk(tx: &Transaction) -> bool
         || any_bulky_command(tx.commands.as_slice())
 }
 
-/// Whether the encoding of a transaction that has bulk is longer than 131,072 bytes. A list that is longer
-/// makes the encoding longer, so what is encoded here is short enough for that.
+/// Whether the encoding of a transaction is longer than 131,072 bytes, by encoding it. It is without that if one of
+/// its lists is longer: so whatever is encoded here can be.
 fn is_encoded_long(alloc: Global, tx: &Transaction) -> Result<bool, OutOfMemory>
     ensures { IfOk result (λ long. long ≡ nat_lt 131072 (length (transaction.spell tx.now))) }
 {

@@ -1,4 +1,5 @@
--- What a member answers, against the definition; running out of memory says nothing.
+-- How the answers of a member's state in code relate to the definition's; an answer that is out of memory is not
+-- related.
 use Rattle.std.specs.Prelude.{◌≡◌, ℕ, Bool, true, false, not, List, [], ◌∷◌, Option, Some, None, Result, Ok, Err, is_some, length, ◌≤◌, if◌then◌else◌}
 use Rattle.digest_core.specs.declared.Digest.{Digest}
 use Rattle.quorum_core.specs.declared.signer.Signer.{Signer}
@@ -28,17 +29,17 @@ use Rattle.validator_core.specs.declared.holds.Holding.{Holding}
 use Rattle.validator_core.specs.declared.holds.Holding.TheVariants as holding
 use Rattle.world_spec.specs.Terms.{Terms, rules_for}
 
--- a committee of nobody
+-- terms of an empty committee, for calls in which the terms play no part
 abbrev pub no_terms : Terms
 no_terms = record { stakes = []; writers = None }
 
--- the rules, if the terms play no part
+-- rules that accept these seals, for calls in which the terms play no part
 abbrev pub sealed_as : (Signer → List ℕ → Digest → Bool) → Rules
 sealed_as accepts = rules_for no_terms accepts
 
 -- ---- votes
 
--- a seal that is not accepted refuses the vote
+-- the refusal of a vote if the sender's seal is not accepted
 abbrev pub unsealed_where : Bool → Option VoteRefusal
 unsealed_where sealed = where_true (not sealed) no_vote.Unsealed
 
@@ -51,12 +52,12 @@ VotesAs epoch said (Ok d) = said ≡ Ok (vote_as epoch d)
 VotesAs epoch said (Err no_vote.OutOfMemory) = Unit {0}
 VotesAs epoch said (Err refusal) = said ≡ Err refusal
 
--- the decision of a vote, between its transaction and the bytes of that
+-- the decision alone, out of the code's triple of transaction, decision and encoded transaction
 abbrev pub decision_in : {B : Type 0} → Result (Transaction × Decision × B) VoteRefusal → Result Decision VoteRefusal
 decision_in (Ok v) = Ok v.1
 decision_in (Err refusal) = Err refusal
 
--- a vote that was given before
+-- the answer is the vote that was given before, with these origins
 abbrev pub Repeats : Digest → List (Option Digest) → Result Decision VoteRefusal → Type 0
 Repeats digest origins (Ok d) = d ≡ record { digest = digest; origins = origins; fresh = false }
 Repeats digest origins (Err no_vote.OutOfMemory) = Unit {0}
@@ -68,7 +69,8 @@ VoteDue due (Ok v) = due ≡ (if v.1.fresh then Some (record_as.Vote v.0 v.1.ori
 VoteDue due (Err no_vote.OutOfMemory) = Unit {0}
 VoteDue due (Err refusal) = due ≡ None
 
--- the transaction has this digest, and a new vote for it is the first, and shares no version with another
+-- what makes a decision safe to keep: the digest is the transaction's, and a fresh vote is the first for it and
+-- consumes no version of a vote for another
 pub record IsFree (m : Member) (t : Transaction) (d : Decision) : Type 0 where
   pub digest : d.digest ≡ transaction_digest t
   pub new : d.fresh ≡ true → vote_for m d.digest ≡ None
@@ -85,7 +87,7 @@ HoldsAs said (Err no_hold.OutOfMemory) = Unit {0}
 HoldsAs said (Err (no_hold.Fork key first second)) = ⊥
 HoldsAs said (Err refusal) = said ≡ Err refusal
 
--- what becomes of a certificate, without the certificate
+-- the `Holding` alone, out of the code's pair with the certificate
 abbrev pub holding_in : Result (Certificate × Holding) HoldRefusal → Result Holding HoldRefusal
 holding_in (Ok h) = Ok h.1
 holding_in (Err refusal) = Err refusal
@@ -99,13 +101,13 @@ HoldDue due (Err no_hold.OutOfMemory) = Unit {0}
 HoldDue due (Err (no_hold.Fork key first second)) = ⊥
 HoldDue due (Err refusal) = due ≡ None
 
--- a certificate that can be held under this digest
+-- a certificate may be held under this digest: the digest is its transaction's, the shape is valid, and none is held
 pub record MayHold (m : Member) (c : Certificate) (digest : Digest) : Type 0 where
   pub is : digest ≡ transaction_digest c.tx
   pub shape : shape_fault c.tx ≡ None
   pub new : is_some (held_of m.held digest) ≡ false
 
--- what is to be held can be
+-- a certificate that is to be kept, as new or as the evidence of a fork, may be held
 abbrev pub IsHeldAs : Member → Certificate → Holding → Type 0
 IsHeldAs m c holding.Again = Unit {0}
 IsHeldAs m c (holding.New digest) = MayHold m c digest
@@ -113,7 +115,7 @@ IsHeldAs m c (holding.Fork key first digest) = MayHold m c digest
 
 -- ---- runs and closes
 
--- why no run, and no close, is asked for
+-- why a run, or a close, is refused before it begins
 abbrev pub run_stopped : Member → Option RunRefusal
 run_stopped m = first_some (halted no_run.Halted m ∷ full no_run.Full m ∷ [])
 
@@ -122,11 +124,11 @@ close_stopped m = first_some (halted no_close.Halted m ∷ full no_close.Full m 
 
 -- ---- records that are taken back
 
--- the rules of a committee that accepts no seal, for calls in which the rules play no part
+-- rules of an empty committee that accepts no seal, for calls in which the rules play no part
 abbrev pub bare : Rules
 bare = rules_for no_terms (λ by bytes seal. false)
 
--- what holds if a record was taken
+-- the fact, if the record that was read back was taken
 abbrev pub OnTaken : {E : Type 0} → Result Bool E → Type 0 → Type 0
 OnTaken (Ok true) holds = holds
 OnTaken (Ok false) holds = Unit {0}

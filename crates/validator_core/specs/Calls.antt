@@ -1,5 +1,7 @@
--- What each call of a member answers, against the definition; running out of memory and a fault of the keeper say
--- nothing here.
+-- How a member's answers relate to the definition's, call by call. For `vote`: `vote_said` is the definition's answer,
+-- `Down` if the member is down; `Votes` relates the code's answer to it, but for `OutOfMemory` and `KeepFault`;
+-- `unkept_vote` is the answer if the record was not kept; `vote_ended` says whether the member is down after it. So
+-- for the other calls.
 use Rattle.std.specs.Prelude.{◌≡◌, ℕ, Bool, true, List, [], Option, Result, Ok, Err, is_ok, if◌then◌else◌}
 use Rattle.digest_core.specs.declared.Digest.{Digest}
 use Rattle.quorum_core.specs.declared.signer.Signer.{Signer}
@@ -156,7 +158,7 @@ close_ended (Err refusal) = answered
 abbrev pub ack_said : Rules → Seated → Digest → Result Statement AckRefusal
 ack_said r seat tx = if seat.up then ack_answer r seat.state tx else Err no_ack.Down
 
--- the statement under the member's seal
+-- the acknowledgement under the member's seal; memory is needed only if there is one
 abbrev pub Acks : (Signer → List ℕ → Digest → Bool) → ℕ → Result Statement AckRefusal → Result Sealed AckRefusal → Type 0
 Acks accepts member said (Ok s) = (said ≡ Ok s.statement) × IsSealedBy accepts member s
 Acks accepts member said (Err no_ack.OutOfMemory) = is_ok said ≡ true
@@ -167,7 +169,7 @@ Acks accepts member said (Err refusal) = said ≡ Err refusal
 abbrev pub end_said : Rules → Seated → Result Statement EndRefusal
 end_said r seat = if seat.up then end_answer r seat.state else Err no_end.Down
 
--- the statement under the member's seal; memory is needed only if there is one
+-- the End under the member's seal; memory is needed only if there is one
 abbrev pub Ends : (Signer → List ℕ → Digest → Bool) → ℕ → Result Statement EndRefusal → Result Sealed EndRefusal → Type 0
 Ends accepts member said (Ok s) = (said ≡ Ok s.statement) × IsSealedBy accepts member s
 Ends accepts member said (Err no_end.OutOfMemory) = is_ok said ≡ true

@@ -1,4 +1,5 @@
--- What a member has of its epoch beside its votes, and how the code keeps it. Source: Sui Lutris.
+-- The course of a member's epoch: all that it has but its votes and whether it closed; and what keeps its tables
+-- consistent. Source: Sui Lutris.
 use Rattle.std.specs.Prelude.{◌≡◌, ◌≤◌, ◌+◌, ℕ, true, false, not, List, [], ◌∷◌, ◌++◌, map, filter, take, drop, length, Option, is_some}
 use Rattle.digest_core.specs.declared.Digest.{Digest}
 use Rattle.chain_types.specs.declared.objects.Object.{Object}
@@ -32,7 +33,7 @@ sequence_in c = record {
   ended = c.ended;
 }
 
--- what contracts see of it, the limit of writers included
+-- what contracts see of a course: the parts of the definition's member, and the limit of writers
 pub record Coursed : Type 0 where
   pub writers : Option ℕ
   pub epoch : ℕ
@@ -57,7 +58,7 @@ coursed c = record {
 abbrev pub built_in : Coursed → List Checkpoint
 built_in c = chained c.epoch c.held c.executed c.past c.sequence.cuts
 
--- the checkpoints built between the two
+-- the checkpoints that the second has built and the first has not
 abbrev pub newly_built : Coursed → Coursed → List Checkpoint
 newly_built old new = drop (length (built_in old)) (built_in new)
 
@@ -73,7 +74,7 @@ IsHeldIn held a = is_some (held_of held a.digest) ≡ true
 abbrev pub WaitsIn : List Held → Held → Type 0
 WaitsIn held h = is_some (held_of held h.digest) ≡ true
 
--- whatever was admitted, or waits for it, is held
+-- the certificate of every transaction in the sequence, admitted or pending, is held
 pub record AreHeld (held : List Held) (a : Admission) : Type 0 where
   pub admitted : Each (IsHeldIn held) a.admitted
   pub pending : Each (WaitsIn held) a.pending
@@ -81,7 +82,7 @@ pub record AreHeld (held : List Held) (a : Admission) : Type 0 where
 abbrev pub HasOpening : Course → Type 0
 HasOpening c = Opens c.admission.opening c.store.opening
 
--- of a course whose chain may have to build more
+-- the tables are consistent, but the chain may have checkpoints to build
 pub record IsUnbuilt (c : Course) : Type 0 where
   pub held : Each IsSoundHeld c.held
   pub waits : IsWaiting c.store c.admission.admission c.held c.waiting
@@ -93,13 +94,13 @@ pub record IsUnbuilt (c : Course) : Type 0 where
   pub told : IsTold c.held c.admission.admission.admitted c.chain
   pub behind : IsBehind c.epoch c.store.executed c.chain
 
--- and of one that has built all that it can
+-- the tables are consistent, and the chain has built all that it can
 pub record IsSound (c : Course) : Type 0 where
   pub unbuilt : IsUnbuilt c
   pub ahead : IsAhead c.epoch c.store.executed c.chain
   pub all : BuildsAll c.epoch c.store.executed c.chain
 
--- of one whose chain and waiting list know of only this many admitted transactions
+-- the tables are consistent, but the chain and the wait lists know of only the first `from` admitted transactions
 pub record IsAdmitting (from : ℕ) (c : Course) : Type 0 where
   pub held : Each IsSoundHeld c.held
   pub waits : StoodBefore c.store c.admission.admission (map digest_of_admitted (drop from c.admission.admission.admitted)) c.held c.waiting
@@ -112,7 +113,7 @@ pub record IsAdmitting (from : ℕ) (c : Course) : Type 0 where
   pub told : IsTold c.held (take from c.admission.admission.admitted) c.chain
   pub behind : IsBehind c.epoch c.store.executed c.chain
 
--- what stays through all of an epoch, even if memory is refused half way
+-- what no step of an epoch changes, even if memory is refused half way
 pub record Stays (old new : Course) : Type 0 where
   pub writers : new.admission.writers ≡ old.admission.writers
   pub opening : HasOpening old → HasOpening new
@@ -122,33 +123,33 @@ pub record Stays (old new : Course) : Type 0 where
 abbrev pub with_held : Coursed → Held → Coursed
 with_held c h = record c { held = c.held ++ h ∷ [] }
 
--- a certificate comes by the sequence
+-- after the entry of a certificate: it is held, and admission has taken its entry
 abbrev pub brings : Coursed → Held → Coursed
 brings c h = record c { held = held_with c.held (takes h); sequence = record c.sequence { admission = entered c.writers c.opening c.sequence.admission h } }
 
--- a mark
+-- after a Commit mark: a cut, and what admission lets in then
 abbrev pub marks : Coursed → Coursed
 marks c = record c { sequence = record c.sequence { admission = passed_mark c.writers c.opening c.sequence.admission; cuts = c.sequence.cuts ++ cut_of (since_mark c.sequence.admission) } }
 
--- an End of a member of this committee
+-- after an End of this member, which was not counted before
 abbrev pub ends : List ℕ → Coursed → ℕ → Coursed
 ends stakes c member = record c { sequence = counted_as (is_quorum stakes (weight stakes (c.sequence.counted ++ member ∷ []))) c.sequence member }
 
 abbrev pub ran : Coursed → Coursed
 ran c = record c { executed = c.executed ++ rounds (record { opening = c.opening; held = c.held; admission = c.sequence.admission }) c.executed }
 
--- the next epoch opens with what the executed transactions left that stand in a cut
+-- the executed transactions that are in a cut: the next epoch opens with what they left
 abbrev pub kept_in : Coursed → List Execution
 kept_in c = filter (λ (x : Execution). is_cut c.sequence.cuts x.digest) c.executed
 
 abbrev pub turned_in : Coursed → Coursed
 turned_in c = record { writers = c.writers; epoch = c.epoch + 1; opening = live_list c.opening (kept_in c); executed = []; held = []; sequence = nothing_seen; past = built_in c }
 
--- the executed transactions that stand in none, oldest first
+-- the executed transactions that are in no cut, oldest first
 abbrev pub reverted_in : Coursed → List Digest
 reverted_in c = map (λ (x : Execution). x.digest) (filter (λ (x : Execution). not (is_cut c.sequence.cuts x.digest)) c.executed)
 
--- what an entry does, before it is numbered
+-- what an entry does to a course, but for the count of entries seen
 abbrev pub arrives : List ℕ → Coursed → Arrival → Coursed
 arrives stakes c (arrival.Takes h) = brings c h
 arrives stakes c arrival.Commits = marks c

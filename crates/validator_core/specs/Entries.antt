@@ -1,4 +1,4 @@
--- What an entry of the sequence is to a member, as the code has it.
+-- The code's `Arrival` of an entry as the definition's `What`, and what an entry must be to be taken.
 use Rattle.std.specs.Prelude.{◌≡◌, ◌<◌, ◌+◌, ℕ, false, List, Option, Some, None, length}
 use Rattle.digest_core.specs.declared.Digest.{Digest}
 use Rattle.chain_types.specs.declared.objects.ObjectId.{ObjectId}
@@ -35,19 +35,19 @@ pub record IsEnding (stakes : List ℕ) (q : Sequence) (m : ℕ) : Type 0 where
   pub known : m < length stakes
   pub new : is_among q.counted m ≡ false
 
--- what an entry must be that is taken
+-- what holds of an arrival that `read_entry` gives, so that it may be taken
 abbrev pub MayArrive : List ℕ → Sequence → Arrival → Type 0
 MayArrive stakes q (arrival.Takes h) = IsArriving q h
 MayArrive stakes q arrival.Commits = Unit {0}
 MayArrive stakes q (arrival.Counts m) = IsEnding stakes q m
 MayArrive stakes q (arrival.Ignores cause) = Unit {0}
 
--- what is answered of a transaction that came by the sequence, with what was taken
+-- the answer to a certificate's entry: pending on an origin, deferred on an object, or else what was taken
 abbrev pub waiting_answer : Option Digest → Option ObjectId → Digest → Taken → SeenWhat
 waiting_answer (Some origin) deferred tx t = seen_as.Pending tx origin
 waiting_answer None (Some id) tx t = seen_as.Deferred tx id
 waiting_answer None None tx t = seen_as.Taken t.admitted t.dropped
 
--- the member after such an entry
+-- the member after the record of this entry
 abbrev pub behind_entry : Rules → Member → What → Member
 behind_entry r m what = record m { sequence = with_entry r m.opening m.sequence what; held = held_with m.held what; records = m.records + 1 }

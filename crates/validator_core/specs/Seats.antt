@@ -1,4 +1,4 @@
--- A member at its seat: its state, and whether it is up. What a call does to it and to its records.
+-- What a call does to a member and to its list of records, by how the call ended.
 use Rattle.std.specs.Prelude.{◌≡◌, ◌⊎◌, ℕ, Bool, true, false, [], Option, Some, None, Result, Ok, Err}
 use Rattle.journal_core.specs.declared.records.Record.{Record}
 use Rattle.journal_core.specs.Records as journals
@@ -11,7 +11,7 @@ use Rattle.world_spec.specs.Seats.{Seated, behind}
 
 -- ---- how a call ended
 
--- it answered, or its record was not kept or memory was refused, and the member is down
+-- the call answered; or its record was not kept, or memory was refused, and the member is down (fell)
 pub data Ended : Type 0 where
   answered : Ended
   fell : Ended
@@ -27,7 +27,7 @@ fallen seat = record seat { up = false; state = fresh [] }
 abbrev pub Fell : Seated → Seated → Type 0
 Fell old new = new ≡ fallen old
 
--- the state after a call that answered
+-- the new state is `next` if the call answered; nothing is said of it if the member fell
 abbrev pub Becomes : Member → Member → Ended → Type 0
 Becomes next new answered = new ≡ next
 Becomes next new fell = Unit {0}
@@ -38,22 +38,22 @@ Behaves r call old new fell = Fell old new
 
 -- ---- the records
 
--- the due record stands
+-- if lists are observable, the due record was added; if none is due, they are as before
 abbrev pub Keeps : Option Journals → Option Journals → ℕ → Option Record → Type 0
 Keeps before now member None = KeepsJournals before now
 Keeps before now member (Some x) = AddsRecord before now member (journals.journal_record.spell x)
 
--- what an append does: at Ok the record stands; else it stands or nothing does
+-- after an append: at Ok the record was added; else it was, or the lists are as before
 abbrev pub Appended : Option Journals → Option Journals → ℕ → Record → Result (Unit {0}) Unkept → Type 0
 Appended before now member x (Ok done) = AddsRecord before now member (journals.journal_record.spell x)
 Appended before now member x (Err why) = AddsRecord before now member (journals.journal_record.spell x) ⊎ KeepsJournals before now
 
--- likewise for a record that may be due
+-- `Appended` if there may be no record to append
 abbrev pub AppendedWhere : Option Journals → Option Journals → ℕ → Option Record → Result (Unit {0}) Unkept → Type 0
 AppendedWhere before now member due (Ok done) = Keeps before now member due
 AppendedWhere before now member due (Err why) = Keeps before now member due ⊎ KeepsJournals before now
 
--- if a call answers, its due record stands; if the member fell, it stands or nothing does
+-- after a call: if it answered, its due record was added; if the member fell, it was, or the lists are as before
 abbrev pub Journaled : Option Journals → Option Journals → ℕ → Option Record → Ended → Type 0
 Journaled before now member due answered = Keeps before now member due
 Journaled before now member due fell = Keeps before now member due ⊎ KeepsJournals before now

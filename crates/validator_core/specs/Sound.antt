@@ -1,4 +1,4 @@
--- What a state is seen as, and what it relies on.
+-- What contracts see of a `State`, and what keeps it consistent.
 use Rattle.std.specs.Prelude.{ℕ, ◌≤◌, Bool, List, length}
 use Rattle.protocol_spec.specs.Chain.Words.{Each}
 use Rattle.protocol_spec.specs.Member.Member.{Member}
@@ -7,7 +7,7 @@ use Rattle.epoch_turn.specs.Dues.{front_length, is_ordered}
 use Rattle.validator_core.specs.Courses.{Coursed, IsSound, coursed}
 use Rattle.validator_core.specs.declared.course.Course.{Course}
 
--- the member of this many records, whether it closed the epoch, its votes, and what else it has of the epoch
+-- the definition's member from the parts of a state: number of records, whether it closed, votes, and the course
 abbrev pub member_with : ℕ → Bool → List Cast → Coursed → Member
 member_with records closed votes c = record {
   records = records;
@@ -21,7 +21,7 @@ member_with records closed votes c = record {
   past = c.past;
 }
 
--- an origin for each object, of which a transaction of valid shape has 257 at most
+-- a vote has at most 257 origins: a transaction of valid shape has no more objects
 abbrev pub HasFew : Cast → Type 0
 HasFew v = length v.origins ≤ 257
 
@@ -32,8 +32,8 @@ AllFew votes = Each HasFew votes
 abbrev pub ordered_front : Coursed → ℕ
 ordered_front c = front_length (is_ordered c.sequence.admission) c.held
 
--- votes can be encoded, what the epoch has is sound, each entry that was seen has its record, and this many of the first
--- held certificates are in the sequence
+-- the invariant of a state: votes have few origins, the course is sound, entries seen have their records, and the
+-- first `ordered` held certificates are in the sequence
 pub record Stands (records : ℕ) (votes : List Cast) (ordered : ℕ) (c : Course) : Type 0 where
   pub few : AllFew votes
   pub sound : IsSound c

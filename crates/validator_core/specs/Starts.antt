@@ -6,7 +6,7 @@ use Rattle.protocol_spec.specs.Member.Member.{Member}
 use Rattle.world_spec.specs.Terms.{Terms}
 use Rattle.world_spec.specs.Seats.{Seated}
 
--- a member that is up in the state that is said, or the refusal; running out of memory says nothing
+-- the start ends in the definition's state, or with its refusal; if memory was refused nothing is said
 abbrev pub StateAs : Result Member StartRefusal → Member → Result (Unit {0}) StartRefusal → Type 0
 StateAs said state (Ok done) = said ≡ Ok state
 StateAs said state (Err no_start.OutOfMemory) = Unit {0}

@@ -10,41 +10,41 @@ use Rattle.journal_core.specs.declared.records.Record.{Record}
 use Rattle.protocol_spec.specs.Member.Sequence.{held_as}
 use Rattle.protocol_spec.specs.Member.Member.{Member, cast_of, turned}
 
--- a fresh vote
+-- after the record of a fresh vote
 abbrev pub voted : Member → Transaction → List (Option Digest) → Member
 voted m t origins = record m { votes = m.votes ++ cast_of t origins ∷ []; records = m.records + 1 }
 
--- a certificate more
+-- after the record of a certificate
 abbrev pub holding : Member → Certificate → Member
 holding m c = record m { held = m.held ++ held_as c ∷ []; records = m.records + 1 }
 
--- the member closed its epoch
+-- after the record of a close
 abbrev pub closing : Member → Member
 closing m = record m { closed = true; records = m.records + 1 }
 
--- the member goes to the next epoch
+-- after the record of a turn
 abbrev pub turning : Member → Member
 turning m = record (turned m) { records = m.records + 1 }
 
 -- ---- runs
 
--- the record of a run is counted
+-- with the record of a run counted: what the run executed was added before
 abbrev pub counted : Member → Member
 counted m = record m { records = m.records + 1 }
 
--- likewise, if the run has one
+-- `counted`, if the run left a record
 abbrev pub counted_where : Option Record → Member → Member
 counted_where None m = m
 counted_where (Some x) m = counted m
 
--- executed transactions, as the record of their run lists them
+-- the item of an executed transaction in the record of its run
 abbrev pub item_of : Effects → RanItem
 item_of e = record { tx = e.tx; effects = digest_of_effects e }
 
 abbrev pub items_of : List Effects → List RanItem
 items_of effects = map item_of effects
 
--- the items so far, and after them those of these effects
+-- loop: the items so far, and after them those of these effects
 abbrev pub items_after : List RanItem → List Effects → List RanItem
 items_after items [] = items
 items_after items (e ∷ es) = items_after (items ++ item_of e ∷ []) es

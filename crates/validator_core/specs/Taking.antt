@@ -1,4 +1,4 @@
--- The records that a member takes as it appends them.
+-- Which records a member may take into its state when it appends them: votes and certificates.
 use Rattle.std.specs.Prelude.{◌≡◌, ◌≤◌, List, Option, None, length}
 use Rattle.digest_core.specs.declared.Digest.{Digest}
 use Rattle.chain_types.specs.declared.transactions.Transaction.{Transaction}
@@ -13,7 +13,7 @@ use Rattle.protocol_spec.specs.Member.Member.{Member, vote_for}
 use Rattle.validator_core.specs.Answers.{MayHold}
 use Rattle.validator_core.specs.Steps.{holding, voted}
 
--- a vote that is the first for its transaction, and shares no version with another
+-- a vote may be taken: it is the first for its transaction, and consumes no version of a vote for another
 pub record MayCast (m : Member) (t : Transaction) (digest : Digest) (origins : List (Option Digest)) : Type 0 where
   pub is : digest ≡ transaction_digest t
   pub new : vote_for m digest ≡ None
@@ -21,7 +21,7 @@ pub record MayCast (m : Member) (t : Transaction) (digest : Digest) (origins : L
   pub free : first_of (locked m.votes digest) (consumed_keys t) ≡ None
   pub spelled : transaction.short t
 
--- a vote or a certificate, of the transaction of this digest
+-- the record is a vote or a certificate of the transaction of this digest, and may be taken
 abbrev pub MayTake : Member → Digest → Record → Type 0
 MayTake m digest (record_as.Vote t origins) = MayCast m t digest origins
 MayTake m digest (record_as.Hold c) = MayHold m c digest × certificate.short c
@@ -31,7 +31,7 @@ MayTake m digest (record_as.Ran txs) = ⊥
 MayTake m digest record_as.Turn = ⊥
 MayTake m digest (record_as.Ran2 items) = ⊥
 
--- the state after it
+-- the state after taking it; other records are not taken here
 abbrev pub taken : Member → Record → Member
 taken m (record_as.Vote t origins) = voted m t origins
 taken m (record_as.Hold c) = holding m c

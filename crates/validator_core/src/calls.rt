@@ -62,7 +62,7 @@ fn seal_vote<S: Sealer>(
     })
 }
 
-/// Takes a record of the transaction of this digest.
+/// Takes the record of a vote or a certificate, whose transaction has this digest, into the state.
 fn take(state: &mut State, kept: Record, digest: Digest) -> Result<(), OutOfMemory>
     requires may { MayTake state.old.member digest kept }
     requires room { nat_le record_limit state.old.member.records ≡ false }
@@ -82,7 +82,8 @@ fn take(state: &mut State, kept: Record, digest: Digest) -> Result<(), OutOfMemo
     }
 }
 
-/// Appends a record of the transaction of this digest, and takes it. The bytes encode its transaction or certificate.
+/// Appends the record of a vote or a certificate, and then takes it into the state. `encoded` is its transaction, or
+/// certificate, in bytes, and `digest` that of the transaction.
 fn keep<D: Keeper>(
     state: &mut State,
     keeper: &mut D,

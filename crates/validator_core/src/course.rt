@@ -1,5 +1,5 @@
-//! What a member has of its epoch beside its votes: versions, certificates, the sequence as it has seen it, and the
-//! checkpoints.
+//! The course of a member's epoch: its versions, certificates, the sequence as it has seen it, and the checkpoints;
+//! all that it has but its votes.
 
 ghost use Rattle.std.specs.Prelude.{◌≡◌, ◌<◌, ◌≤◌, ◌^◌, [], IfOk, OnOk, drop, false, is_some, length, map};
 ghost use Rattle.chain_types.specs.Digests.{transaction_digest};
@@ -27,7 +27,7 @@ use version_store::Store;
 use vote_rules::HeldBook;
 use wire_bcs::{OutOfMemory, Seq};
 
-/// An epoch of a member, as far as it went.
+/// All that a member has of its epoch but its votes, and whether it closed.
 #[derive(Drop)]
 pub(crate) struct Course {
     pub(crate) epoch: u64,
@@ -75,7 +75,8 @@ impl Course {
         })
     }
 
-    /// Holds nothing and has seen nothing, if memory was refused on the way. Takes no memory.
+    /// Empties the tables after a refusal of memory half way, so that they are consistent again; the member is down
+    /// then. Takes no memory.
     pub(crate) fn forget(&mut self)
         requires { HasOpening self.old }
         ensures sound { IsSound self.new }
@@ -106,7 +107,8 @@ impl Course {
         self.held.hold(new)
     }
 
-    /// Reports to the tables the transactions that were admitted from a place on, which are these.
+    /// Reports newly admitted transactions to the wait lists and to the chain: `txs`, which admission has from the
+    /// place `from` on.
     pub(crate) fn let_in(&mut self, from: usize, txs: &[Digest]) -> Result<(), OutOfMemory>
         requires admitting { IsAdmitting from self.old }
         requires txs { txs.now ≡ map digest_of_admitted (drop from self.old.admission.admission.admitted) }
@@ -153,7 +155,8 @@ impl Course {
         )
     }
 
-    /// Likewise, by 1 to 16 workers in threads. The gate is notified of each execution, which no clause says.
+    /// [`Course::execute`] by 1 to 16 workers in threads. The gate is notified of each execution, which no clause
+    /// says.
     fn execute_pooled<R: Threads + Sync, G: Gate + Sync>(
         &mut self,
         rt: &R,
@@ -181,8 +184,8 @@ impl Course {
         )
     }
 
-    /// Runs on the caller's thread, and builds the checkpoints that the run completes: the effects of what was executed,
-    /// and these.
+    /// Executes on the caller's thread all that is ready, and builds the checkpoints that this completes. Answers the
+    /// effects in order, and these checkpoints.
     pub(crate) fn run(&mut self) -> Result<(Seq<HashedEffects>, Seq<HashedCheckpoint>), OutOfMemory>
         requires { IsSound self.old }
         ensures sound { OnOk result (IsSound self.new) }
@@ -197,7 +200,7 @@ impl Course {
         Ok((effects, built))
     }
 
-    /// Likewise, by 1 to 16 workers in threads. The gate is notified of each execution, which no clause says.
+    /// [`Course::run`] by 1 to 16 workers in threads. The gate is notified of each execution, which no clause says.
     pub(crate) fn run_pooled<R: Threads + Sync, G: Gate + Sync>(
         &mut self,
         rt: &R,

@@ -1,4 +1,4 @@
-//! What an entry of the consensus sequence is to a member.
+//! Reading the next entry of the sequence: what it is to the member, before it does anything.
 
 ghost use Rattle.std.specs.Prelude.{◌≡◌, ◌&&◌, IfOk, Ok, length, nat_lt};
 ghost use Rattle.chain_messages.specs.Messages.{sealed, statement};
@@ -19,7 +19,7 @@ use protocol_spec::{Held, Ignore, SharedCertificate};
 use quorum_core::{Committee, Sealer, Signer};
 use wire_bcs::{OutOfMemory, Unread};
 
-/// What an entry is, before it is taken.
+/// What an entry is to the member, before it does anything.
 #[derive(Debug, Drop)]
 pub(crate) enum Arrival {
     /// A valid certificate whose transaction is not in the sequence.

@@ -1,4 +1,4 @@
-//! What a member answers to a certificate.
+//! Deciding what becomes of a certificate that is handed in, before anything is kept.
 
 ghost use Rattle.std.specs.Prelude.{◌≡◌, None, false, is_some, nat_le, IfOk, IsErrOf};
 ghost use Rattle.chain_types.specs.Transactions.{transaction};
@@ -22,7 +22,7 @@ use protocol_spec::HoldRefusal;
 use quorum_core::{Committee, Sealer};
 use wire_bcs::Unread;
 
-/// What becomes of a certificate that is not refused before it is kept.
+/// What becomes of a certificate that is not refused.
 #[derive(Clone, Copy, Debug, PartialEq, Eq)]
 pub(crate) enum Holding {
     /// Its transaction's certificate is held already.

@@ -1,4 +1,4 @@
-//! What others ask of a member beside its calls.
+//! Look-ups in a member's state: versions, effects, held certificates.
 
 ghost use Rattle.std.specs.Prelude.{◌≡◌, option_copied, option_map};
 ghost use Rattle.protocol_spec.specs.Member.Versions.{Execution, execution_of, live, object_in, version_at, versions as versions_of};

@@ -46,7 +46,8 @@ impl Course {
         }
     }
 
-    /// Has nothing, if memory was refused as the epoch changed. Takes no memory.
+    /// Replaces the course by an empty one, after memory was refused as the epoch changed; the member is down then.
+    /// Takes no memory.
     pub(crate) fn abandon(&mut self)
         ensures sound { IsSound self.new }
         ensures limit { self.new.admission.writers ≡ self.old.admission.writers }

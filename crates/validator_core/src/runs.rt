@@ -33,7 +33,7 @@ fn item_of(effects: &HashedEffects) -> RanItem
     }
 }
 
-/// The items, one after the other.
+/// The loop of [`ran_items`].
 fn collect_items(alloc: Global, effects: &[HashedEffects]) -> Result<Seq<RanItem>, OutOfMemory>
     ensures { IfOk result (λ items. items ≡ items_after [] effects.now) }
 {

@@ -1,4 +1,4 @@
-//! The state, and the records that it takes.
+//! The state of a member in its present epoch, and how it takes each kind of record.
 
 ghost use Rattle.std.specs.Prelude.{◌≡◌, ◌<◌, ◌≤◌, [], if◌then◌else◌, IfOk, IfSome, OnOk, None, false, true, find, is_some, option_copied, option_map, nat_le, length, map, slice_get};
 ghost use Rattle.checkpoint_core.specs.Checkpoints.{transactions_in};
@@ -107,7 +107,7 @@ impl State {
         }
     }
 
-    /// Has nothing any more. Takes no memory.
+    /// Replaces the state by an empty one. Takes no memory.
     fn abandon(&mut self)
         ensures { self.new ≡ record { writers = self.old.writers; member = fresh [] } }
     {
@@ -115,7 +115,7 @@ impl State {
         drop(replace(self, empty));
     }
 
-    /// What is left after a call: of a member that fell, nothing. Takes no memory.
+    /// Ends a call: if the member fell in it, nothing is left of its state. Takes no memory.
     pub(crate) fn settle(&mut self, fell: bool)
         ensures limit { self.new.writers ≡ self.old.writers }
         ensures member { self.new.member ≡ (if fell then fresh [] else self.old.member) }
@@ -396,7 +396,7 @@ impl State {
         }
     }
 
-    /// Likewise, by 1 to 16 workers in threads. The gate is notified of each execution, which no clause says.
+    /// [`State::execute`] by 1 to 16 workers in threads. The gate is notified of each execution, which no clause says.
     #[tactic(auto, unfolding(protocol_spec::specs::Member::Member::built), using(crate::proofs::Named::ran_named))]
     pub(crate) fn execute_pooled<R: Threads + Sync, G: Gate + Sync>(
         &mut self,

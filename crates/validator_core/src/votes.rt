@@ -1,4 +1,4 @@
-//! What a member answers to the request for a vote.
+//! Deciding a request for a vote, before anything is kept.
 
 ghost use Rattle.std.specs.Prelude.{◌≡◌, None, IfOk, IsErrOf, false, nat_le};
 ghost use Rattle.chain_types.specs.Transactions.{transaction};
@@ -44,7 +44,7 @@ fn decided_as(refusal: DecideRefusal) -> VoteRefusal
     }
 }
 
-/// The vote that was given before.
+/// The decision to give a vote once more that was given before.
 fn again(digest: Digest, origins: &Seq<Option<Digest>>) -> Result<Decision, VoteRefusal>
     ensures value { Repeats digest origins.now result }
     ensures never { IsErrOf result no_vote.KeepFault → ⊥ }
@@ -84,7 +84,7 @@ impl State {
         Ok(())
     }
 
-    /// A vote that was not given before.
+    /// The decision on a transaction that was not voted for, or why there is no vote.
     #[tactic(auto, using(crate::proofs::Cases::is_free))]
     fn new_vote(
         &self,

@@ -41,7 +41,7 @@ HasCause stop.WriteFault r r' w w' k k' = Rose w w'
 HasCause stop.KeepFault r r' w w' k k' = Rose k k'
 HasCause stop.OutOfMemory r r' w w' k k' = Unit {0}
 
--- the stop of a write
+-- a stop that the writing of a line may cause: a write fault, whose count rose, or running out of memory
 abbrev pub IsOfWrite : Stop → ℕ → ℕ → Type 0
 IsOfWrite stop.ReadFault w w' = ⊥
 IsOfWrite stop.WriteFault w w' = Rose w w'
@@ -50,12 +50,12 @@ IsOfWrite stop.OutOfMemory w w' = Unit {0}
 
 -- ---- a line that ends a process
 
--- it was written whole
+-- the line was written whole, and its status ends the process
 pub record IsSaidWhole (line : StartLine) (held held' : Option (List ℕ)) (status : ℕ) : Type 0 where
   pub ends : status ≡ line_status line
   pub writes : Appends held held' (start_bytes line)
 
--- a prefix of it was written
+-- only a prefix of the line was written, and the stop's status ends the process
 pub record IsSaidCut (line : StartLine) (held held' : Option (List ℕ)) (w w' status : ℕ) : Type 0 where
   pub why : Stop
   pub ends : status ≡ status_of why
@@ -65,7 +65,7 @@ pub record IsSaidCut (line : StartLine) (held held' : Option (List ℕ)) (w w' s
 abbrev pub IsSaid : StartLine → Option (List ℕ) → Option (List ℕ) → ℕ → ℕ → ℕ → Type 0
 IsSaid line held held' w w' status = IsSaidWhole line held held' status ⊎ IsSaidCut line held held' w w' status
 
--- why no member starts: a line says it, or nothing is written
+-- the end of a process whose member does not start: a line says why, or a stop ends it and nothing is written
 abbrev pub SaysUnstarted : Unstarted → Option (List ℕ) → Option (List ℕ) → ℕ → ℕ → ℕ → Type 0
 SaysUnstarted (unstarted.Refused line) held held' w w' status = IsSaid line held held' w w' status
 SaysUnstarted (unstarted.Stopped why) held held' w w' status = (status ≡ status_of why) × (held' ≡ held)
@@ -85,7 +85,8 @@ pub record LivedWhole (accepts : Accepting) (scene : Scene) (m : ℕ) (left left
   pub lives : LivesWhole accepts seat left left' held held' mid kept'
   pub ends : status ≡ 0
 
--- it started, and was cut: by the sink at a line that it was handed, by the journal at a line whose record is due
+-- the member started, and a stop cut it off: the sink at a line that it was handed, the journal at a line whose record
+-- is due, or another stop
 pub record LivedCut (accepts : Accepting) (scene : Scene) (m : ℕ) (left left' held held' : Option (List ℕ)) (kept kept' : Option Journals) (r r' w w' k k' status : ℕ) : Type 0 where
   pub seat : Seated
   pub mid : Option Journals
@@ -96,7 +97,7 @@ pub record LivedCut (accepts : Accepting) (scene : Scene) (m : ℕ) (left left' 
   pub ends : status ≡ status_of why
   pub cause : HasCause why r r' w w' k k'
 
--- it did not start: a record is bad, and a line says so
+-- the member did not start: a record is bad, and a line says so
 pub record IsRefusedStart (accepts : Accepting) (scene : Scene) (m : ℕ) (left left' held held' : Option (List ℕ)) (kept kept' : Option Journals) (w w' status : ℕ) : Type 0 where
   pub line : StartLine
   pub starts : StartsAs accepts scene m kept (Err (unstarted.Refused line))
@@ -104,7 +105,7 @@ pub record IsRefusedStart (accepts : Accepting) (scene : Scene) (m : ℕ) (left 
   pub said : IsSaid line held held' w w' status
   pub same : KeepsJournals kept kept'
 
--- it did not start, for a fault of the journal or of memory: nothing is read and written
+-- the member did not start, for a fault of the journal or of memory: nothing is read or written
 pub record IsStoppedStart (left left' held held' : Option (List ℕ)) (kept kept' : Option Journals) (k k' status : ℕ) : Type 0 where
   pub why : Stop
   pub inside : IsInside why
@@ -123,7 +124,7 @@ EndsLife accepts scene m left left' held held' kept kept' r r' w w' k k' status 
 
 -- ---- a life over a disk
 
--- what a disk shows as a keeper of the lists of a journal
+-- the disk's lists as those of a keeper with the 65 lists of a journal, if it shows its bytes
 abbrev pub kept_in : Option History → Option Journals
 kept_in told = lists_in 65 told
 
@@ -149,7 +150,7 @@ pub record IsLife (accepts : Accepting) (scene : Scene) (m : ℕ) (told told' : 
   pub later : k ≤ opened
   pub over : EndsLog (counted_in told) accepts scene m told' left left' held held' (kept_in told) r r' w w' opened k' status
 
--- it was not opened: the records that count are those of before
+-- the journal was not opened: a line may say why, and the records that count are those of before
 pub record IsUnopened (told told' : Option History) (left left' held held' : Option (List ℕ)) (w w' k k' status : ℕ) : Type 0 where
   pub why : Unopened
   pub cause : IsUnopenedBy why told k k'
@@ -164,11 +165,12 @@ EndsJournal accepts scene m told told' left left' held held' r r' w w' k k' stat
 
 -- ---- the whole of a process that serves, from the text of its set-up
 
--- the first bytes of the disk are this head, if the disk shows its bytes
+-- this is what the first bytes of the disk are, if the disk shows its bytes
 abbrev pub HasHead : Option History → ℕ → List ℕ → Head → Type 0
 HasHead told m text it = IfTold told (λ h. it ≡ head_of_file m (genesis_digest text) h.now.reads)
 
--- why the head of a disk lets no member start
+-- the head of the disk lets no member start for this reason: it is no journal, another member's or another set-up's,
+-- or it was not read
 abbrev pub IsHeadRefused : Unstarted → Option History → ℕ → List ℕ → ℕ → ℕ → Type 0
 IsHeadRefused (unstarted.Refused start.NotMade) told m text k k' = HasHead told m text head.Unmade
 IsHeadRefused (unstarted.Refused start.OtherMember) told m text k k' = HasHead told m text head.OtherMember
@@ -196,7 +198,7 @@ pub record IsNoJournal (trust : Trust) (m : ℕ) (text : List ℕ) (told told' :
   pub unread : left' ≡ left
   pub disk : told' ≡ told
 
--- the file is this member's journal of this set-up, and what followed ended
+-- the file is this member's journal of this set-up, and it was opened or not, and lived or not, as `EndsJournal` says
 pub record IsBegun (trust : Trust) (accepts : Accepting) (m : ℕ) (text : List ℕ) (told told' : Option History) (left left' held held' : Option (List ℕ)) (r r' w w' k k' status : ℕ) : Type 0 where
   pub scene : Scene
   pub genesis : genesis_of trust m text ≡ Ok scene
@@ -219,27 +221,28 @@ program_trust = keyed program_secret
 
 -- ---- a process that makes a journal
 
--- no list has a record
+-- no list has a record, if lists are observable
 abbrev pub AreFresh : Option Journals → Type 0
 AreFresh None = Unit {0}
 AreFresh (Some lists) = lists ≡ journals_of 65 []
 
--- lists with the record that says of which member and of which set-up they are
+-- observable lists grew by the identity record, which says of which member and set-up the journal is
 abbrev pub AddsIdentity : ℕ → List ℕ → Option Journals → Option Journals → Type 0
 AddsIdentity m text kept kept' = AddsRecord kept kept' 64 (identity_bytes m (genesis_digest text))
 
--- the lists were empty and have that record, and a line says so
+-- the journal was made: the lists were empty and have the identity record now, and a line says so
 pub record IsMade (m : ℕ) (text : List ℕ) (held held' : Option (List ℕ)) (kept kept' : Option Journals) (w w' status : ℕ) : Type 0 where
   pub fresh : AreFresh kept
   pub adds : AddsIdentity m text kept kept'
   pub said : IsSaid (start.Made m (genesis_digest text)) held held' w w' status
 
--- the lists had a record, and stay as they were
+-- the journal was not made: the lists had a record and stay as they were, and a line says so
 pub record IsFull (held held' : Option (List ℕ)) (kept kept' : Option Journals) (w w' status : ℕ) : Type 0 where
   pub same : KeepsJournals kept kept'
   pub said : IsSaid start.NotEmpty held held' w w' status
 
--- a fault of the journal, after which the lists have that record or not, or of memory: nothing is written
+-- the making was stopped by a fault of the journal or of memory: the lists have the identity record or not, and
+-- nothing is written
 pub record IsUnmade (m : ℕ) (text : List ℕ) (held held' : Option (List ℕ)) (kept kept' : Option Journals) (k k' status : ℕ) : Type 0 where
   pub why : Stop
   pub inside : IsInside why
@@ -254,17 +257,17 @@ EndsLists m text held held' kept kept' w w' k k' status =
     ⊎ IsFull held held' kept kept' w w' status
     ⊎ IsUnmade m text held held' kept kept' k k' status
 
--- these records count and no others, in what reads give and in each file that a crash may leave now
+-- exactly these records count, both in what the disk reads now and in each file that a crash may leave
 pub record HoldsOnly (records : List Record) (h : History) : Type 0 where
   pub reads : counted h.now.reads ≡ records
   pub crash : LeavesRecords h records
 
--- the record that says of which member and of which set-up a journal is stands alone, if the disk shows its bytes
+-- the identity record is the only one on the disk, if the disk shows its bytes
 abbrev pub HasIdentity : ℕ → List ℕ → Option History → Type 0
 HasIdentity m text told = IfTold told (HoldsOnly (identity_record m (genesis_digest text) ∷ []))
 
--- the journal was opened, and the disk holds the lists that were left, in each file that is left such as the making may leave; at 0
--- that record stands alone
+-- the journal was opened, and the making ended: the disk holds the lists that it left, also in each file that a crash
+-- may leave; with status 0 the identity record is the only one
 pub record IsMaking (m : ℕ) (text : List ℕ) (told told' : Option History) (held held' : Option (List ℕ)) (w w' k k' status : ℕ) : Type 0 where
   pub opened : ℕ
   pub width : ℕ
@@ -280,7 +283,7 @@ EndsMaking m text told told' held held' w w' k k' status =
     IsMaking m text told told' held held' w w' k k' status
     ⊎ IsUnopened told told' None None held held' w w' k k' status
 
--- the disk has more bytes than a making that was cut leaves, and is as it was
+-- the disk has more bytes than a making that was cut off leaves (66): a line says so, and the disk is as it was
 pub record IsTooLong (told told' : Option History) (held held' : Option (List ℕ)) (w w' k k' status : ℕ) : Type 0 where
   pub long : IfTold told (λ h. 66 < length h.now.reads)
   pub said : IsSaid start.NotEmpty held held' w w' status
@@ -293,19 +296,20 @@ pub record IsMakingFor (trust : Trust) (m : ℕ) (text : List ℕ) (told told' :
   pub genesis : genesis_of trust m text ≡ Ok scene
   pub ends : EndsMaking m text told told' held held' w w' k k' status
 
--- a journal is made for a text that makes a committee with this member
+-- how the making of a journal may end: the text makes no committee with this member, the disk has too many bytes, or
+-- the making ended
 abbrev pub EndsMade : Trust → ℕ → List ℕ → Option History → Option History → Option (List ℕ) → Option (List ℕ) → ℕ → ℕ → ℕ → ℕ → ℕ → Type 0
 EndsMade trust m text told told' held held' w w' k k' status =
     IsNoGenesis trust m text told told' None None held held' w w' k k' status
     ⊎ IsTooLong told told' held held' w w' k k' status
     ⊎ IsMakingFor trust m text told told' held held' w w' k k' status
 
--- the task of a text ended; one that makes a journal reads no request
+-- how a task may end for the text of its set-up; making a journal reads no request
 abbrev pub EndsTask : Task → List ℕ → Option History → Option History → Option (List ℕ) → Option (List ℕ) → Option (List ℕ) → Option (List ℕ) → ℕ → ℕ → ℕ → ℕ → ℕ → ℕ → ℕ → Type 0
 EndsTask (task.Make m) text told told' left left' held held' r r' w w' k k' status = (left' ≡ left) × (r' ≡ r) × EndsMade program_trust m text told told' held held' w w' k k' status
 EndsTask (task.Serve m) text told told' left left' held held' r r' w w' k k' status = EndsText program_trust program_trust.accepts m text told told' left left' held held' r r' w w' k k' status
 
--- the set-up was not read: nothing else is read, written and kept
+-- the set-up was not read: nothing else is read, and nothing is written or kept
 pub record IsUnread (g g' : ℕ) (told told' : Option History) (left left' held held' : Option (List ℕ)) (k k' status : ℕ) : Type 0 where
   pub why : Stop
   pub cause : HasCause why g g' 0 0 0 0
@@ -315,7 +319,7 @@ pub record IsUnread (g g' : ℕ) (told told' : Option History) (left left' held 
   pub disk : told' ≡ told
   pub uncounted : k' ≡ k
 
--- it was read, and the task ended
+-- the set-up was read, and the task ended
 pub record IsDone (it : Task) (setup setup' : Option (List ℕ)) (told told' : Option History) (left left' held held' : Option (List ℕ)) (r r' w w' k k' status : ℕ) : Type 0 where
   pub text : List ℕ
   pub reads : ReadsText longest_text setup setup' text

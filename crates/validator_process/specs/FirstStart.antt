@@ -11,13 +11,14 @@ use Rattle.validator_process.specs.Genesis.{genesis_of}
 use Rattle.validator_process.specs.Living.{IsProcess, Process}
 use Rattle.validator_process.specs.Stops.{status_of}
 
--- it ended with 0 as the call `validator` says of one that makes the journal of this member of this set-up
+-- a process that made the journal of this member of this set-up: it ended with status 0 as the clauses of `validator`
+-- allow
 pub record HasMade (m : ℕ) (text : List ℕ) (p : Process) : Type 0 where
   pub ends : EndsProcess (task.Make m) (Some text) p.setup p.setup_before p.setup_faults (Some p.first) (Some p.last) p.asked p.unread p.held p.holds p.read_before p.read_faults p.write_before p.write_faults p.disk_before p.disk_faults p.status
   pub done : p.status ≡ 0
 
--- the member started from no records, said `ready`, and served to the end of its input or was cut; or it was cut while it
--- said so
+-- the member started from no records, said `ready`, and served to the end of its input or was cut off; or it was cut
+-- off while it said so
 pub record IsUp (scene : Scene) (m : ℕ) (p : Process) : Type 0 where
   pub empty : kept_of 65 m p.first.now.reads ≡ []
   pub opened : ℕ
@@ -39,6 +40,7 @@ pub record IsStarted (m : ℕ) (text : List ℕ) (p : Process) : Type 0 where
   pub genesis : genesis_of program_trust m text ≡ Ok scene
   pub starts : IsUp scene m p ⊎ IsStopped p
 
--- a start from what a making with 0 left, also by a crash after it, finds the journal of its member and set-up
+-- the law of the first start: from what a making with status 0 left, also by a crash after it, no line refuses the
+-- start
 abbrev pub MadeStarts : Type 0
 MadeStarts = (m : ℕ) (text : List ℕ) → m ≤ 63 → length text ≤ longest_text → (made next : Process) → HasMade m text made → Follows made.last next.first → IsProcess m text next → IsStarted m text next

@@ -20,7 +20,7 @@ use Rattle.process_lines.specs.declared.starts.StartLine.TheVariants as start
 abbrev pub scene_in : Trust → Schedule → Scene
 scene_in trust s = new_scene (setting_of trust s.setup) s.setup
 
--- the committee has an honest member of this number
+-- the committee, if its member of this number is honest; else the line that refuses the start
 abbrev pub member_checked : ℕ → Scene → Result Scene StartLine
 member_checked m scene = if honest_post (slice_get scene.posts m) then Ok scene else Err (start.NoMember m)
 
@@ -28,7 +28,7 @@ abbrev pub scene_of : Trust → ℕ → Result Schedule Refused → Result Scene
 scene_of trust m (Err r) = Err (start.NoSchedule r.line r.cause)
 scene_of trust m (Ok s) = if length s.events == 0 then member_checked m (scene_in trust s) else Err start.HasEvents
 
--- the committee of a text, or why the member does not start
+-- the committee that a text sets up, or the line that refuses the start
 unfoldable pub genesis_of : Trust → ℕ → List ℕ → Result Scene StartLine
 genesis_of trust m text = scene_of trust m (schedule_of text)
 
@@ -39,7 +39,7 @@ member_started scene m (Ok state) = Ok (seat_at scene.terms m state)
 member_started scene m (Err (no_start.BadRecord place why)) = Err (start.BadRecord place)
 member_started scene m (Err no_start.OutOfMemory) = Err start.NotMade
 
--- a member of the committee starts from its records
+-- a member of the committee as it starts from its records, or the line that refuses the start
 abbrev pub started_in : Accepting → Scene → ℕ → List (List ℕ) → Result Seated StartLine
 started_in accepts scene m records = member_started scene m (started (rules_in accepts scene) scene.opening records)
 
@@ -47,7 +47,7 @@ started_in accepts scene m records = member_started scene m (started (rules_in a
 abbrev pub ready_line : Seated → StartLine
 ready_line seat = start.Ready seat.member seat.state.epoch seat.state.sequence.number (length (built seat.state)) seat.state.records
 
--- the status of a line that refuses a start
+-- the status with which a process ends after this line: 0 after `ready` or `made`
 abbrev pub line_status : StartLine → ℕ
 line_status (start.Ready member epoch seen checkpoints records) = 0
 line_status (start.Made member genesis) = 0

@@ -18,30 +18,30 @@ abbrev pub records_in : Option History → ℕ → List Record
 records_in None end = []
 records_in (Some h) end = records_to h.now.reads end
 
--- these records are the first in each file that is left
+-- in each file that a crash may leave now, the records that count begin with these
 abbrev pub LeavesFirst : List Record → History → Type 0
 LeavesFirst first h = (file : List ℕ) → IsLeft h file → IsFront first (counted file)
 
 -- ---- a log
 
--- no append met a fault: in each file that a crash may leave now the records up to the gate count, and no others
+-- a log whose appends met no fault: in each file that a crash may leave now, exactly the records up to the gate count
 pub record IsWhole (told : Option History) (end : ℕ) (shut : Bool) : Type 0 where
   pub goes : shut ≡ false
   pub left : IfTold told (λ h. LeavesRecords h (records_to h.now.reads end))
 
--- the records up to the gate are those before, and perhaps more, and the disk holds them
+-- a log that grew: the records up to its gate begin with those of before, and the disk holds them
 pub record HasMore (told told' : Option History) (end end' faults : ℕ) : Type 0 where
   pub first : IsFront (records_in told end) (records_in told' end')
   pub holds : IfTold told' (HoldsTo faults end')
 
 -- ---- what is left of it
 
--- in each file that is left now, the lists of the records that count are such
+-- `P` holds of the lists of each file that a crash may leave now
 abbrev pub EachLeft : (Option Journals → Type 0) → ℕ → Option History → Type 0
 EachLeft P width None = Unit {0}
 EachLeft P width (Some h) = (file : List ℕ) → IsLeft h file → P (Some (journals_of width (counted file)))
 
--- the lists grow by the record whose bytes are due, if one is
+-- observable lists grow by the record with these bytes, or stay if no record is due
 abbrev pub AddsDue : Option Journals → Option Journals → ℕ → Option (List ℕ) → Type 0
 AddsDue before now m None = KeepsJournals before now
 AddsDue before now m (Some bytes) = AddsRecord before now m bytes
@@ -51,7 +51,7 @@ MayAddDue before now m due = AddsDue before now m due ⊎ KeepsJournals before n
 
 -- ---- a log that is only read
 
--- the moments of its disk, its gate, its counts and whether it is shut are these
+-- a log stands as it was: its disk's moments, its gate, its counts, and whether it is shut
 pub record StandsAs (told : Option History) (end : ℕ) (counts : List ℕ) (shut : Bool) (told' : Option History) (end' : ℕ) (counts' : List ℕ) (shut' : Bool) : Type 0 where
   pub history : told ≡ told'
   pub gate : end ≡ end'

@@ -15,14 +15,14 @@ use Rattle.validator_process.specs.Living.{IsProcess, Process}
 use Rattle.validator_process.specs.Serving.{AreAnswered, Exchange, records_left}
 use Rattle.validator_process.specs.Starting.{start_bytes}
 
--- the line was the first of the process, on which no record rests: nothing is read
+-- the line that was handed to the sink was the first of the process, which rests on no record; no request is read yet
 pub record IsFirstHanded (p : Process) : Type 0 where
   pub line : StartLine
   pub writes : AppendsFront p.held p.holds (start_bytes line)
   pub unread : p.unread ≡ p.asked
 
--- it was an answer: those before it are written, and each file that is left then has what the member started from, the records
--- of the answers before it, and its own
+-- the line that was handed to the sink was an answer: those before it are written, and each file that a crash may
+-- leave then has the records that the member started from, those of the answers before, and this answer's own
 pub record IsAnswerHanded (scene : Scene) (m : ℕ) (p : Process) : Type 0 where
   pub seat : Seated
   pub before : List Exchange
@@ -34,8 +34,9 @@ pub record IsAnswerHanded (scene : Scene) (m : ℕ) (p : Process) : Type 0 where
   pub writes : AppendsFront said p.holds handed.text
   pub stands : (file : List ℕ) → IsLeft p.last file → IsFront (kept_of 65 m p.first.now.reads ++ records_left program_trust.accepts seat (before ++ handed ∷ [])) (kept_of 65 m file)
 
--- A sink that fails at a line stops the process while it is handed that line, with status 5; it may fail at the first byte. So
--- the records on which a line rests stand in each file that a crash may leave when the line is handed to the sink.
+-- The law "kept before said": when a line is handed to the sink, the records on which it rests stand in each file that
+-- a crash may leave. It is said of the process that stops with status 5 because its sink fails at that line, perhaps
+-- at the first byte.
 abbrev pub KeptFirst : Type 0
 KeptFirst = (m : ℕ) (text : List ℕ) (scene : Scene) → m ≤ 63 → length text ≤ longest_text → genesis_of program_trust m text ≡ Ok scene
     → (p : Process) → IsProcess m text p → p.status ≡ 5 → IsFirstHanded p ⊎ IsAnswerHanded scene m p

@@ -66,7 +66,7 @@ pub record Process : Type 0 where
   pub disk_faults : ℕ
   pub status : ℕ
 
--- it ended as the call `validator` says of one that serves this member of this set-up
+-- a process that serves this member of this set-up: it ended as the clauses of `validator` allow
 abbrev pub IsProcess : ℕ → List ℕ → Process → Type 0
 IsProcess m text p =
     EndsProcess (task.Serve m) (Some text) p.setup p.setup_before p.setup_faults (Some p.first) (Some p.last) p.asked p.unread p.held p.holds p.read_before p.read_faults p.write_before p.write_faults p.disk_before p.disk_faults p.status
@@ -86,7 +86,7 @@ pub record HasNotAnswered (p : Process) (calls : List Call) : Type 0 where
   pub none : calls ≡ []
   pub unread : p.unread ≡ p.asked
 
--- what a process did to the file, and the calls that it answered
+-- this run is the process's: from what it found on the disk to what it left, with the calls that it answered
 pub record IsRunOf (scene : Scene) (m : ℕ) (p : Process) (run : Run) : Type 0 where
   pub first : run.first ≡ p.first
   pub last : run.last ≡ p.last
@@ -94,7 +94,8 @@ pub record IsRunOf (scene : Scene) (m : ℕ) (p : Process) (run : Run) : Type 0 
 
 -- ---- one after the other
 
--- processes of this member on a disk, and the file that the last of them leaves
+-- processes of this member one after the other on one disk, each from what the one before left, and a file that the
+-- last may leave
 abbrev pub AreProcesses : ℕ → List ℕ → History → List Process → List ℕ → Type 0
 AreProcesses m text h [] file = IsLeft h file
 AreProcesses m text h (p ∷ ps) file = Follows h p.first × IsProcess m text p × AreProcesses m text p.last ps file

@@ -40,7 +40,7 @@ use Rattle.process_lines.specs.Texts.{ack_refusal_text, ack_text, checkpoint_tex
 
 -- ---- statements under the member's seal
 
--- the text is of this statement of the member, under a seal of its that is accepted
+-- the text is that of this statement of the member, under an accepted seal of the member
 pub record IsOfSealed (accepts : Accepting) (m : ℕ) (said : Statement) (text_of : Sealed → List ℕ) (text : List ℕ) : Type 0 where
   pub sealed : Sealed
   pub statement : sealed.statement ≡ said
@@ -50,7 +50,7 @@ pub record IsOfSealed (accepts : Accepting) (m : ℕ) (said : Statement) (text_o
 abbrev pub sent_as : Bool → Sealed → Sent
 sent_as fresh s = record { sealed = s; fresh = fresh }
 
--- the text of an answer, faults aside
+-- the text for an answer to `vote`; below, one function for each kind of answer. A fault has no text that is written
 abbrev pub vote_line : Result Sent VoteRefusal → List ℕ
 vote_line (Ok v) = voted_text v
 vote_line (Err refusal) = vote_refusal_text refusal
@@ -63,7 +63,7 @@ abbrev pub end_line : Result Sealed EndRefusal → List ℕ
 end_line (Ok s) = end_text s
 end_line (Err refusal) = end_refusal_text refusal
 
--- what a member that is up was heard to answer; not that it ran out of memory
+-- the answer of a member that is up to `end`, which is not that it ran out of memory
 pub record HearsEnd (accepts : Accepting) (m : ℕ) (said : Result Statement EndRefusal) (given : Result Sealed EndRefusal) : Type 0 where
   pub answer : Ends accepts m said given
   pub able : given ≡ Err no_end.OutOfMemory → ⊥
@@ -84,7 +84,7 @@ abbrev pub AckSays : Accepting → ℕ → Result Statement AckRefusal → List 
 AckSays accepts m (Ok said) text = IsOfSealed accepts m said ack_text text
 AckSays accepts m (Err refusal) text = text ≡ ack_refusal_text refusal
 
--- what a member states of a checkpoint that it has built
+-- the statement that a member seals for a checkpoint that it has built
 abbrev pub stated : Checkpoint → Statement
 stated c = statement.Checkpoint c.epoch c.number (digest_of_checkpoint c)
 
@@ -118,7 +118,7 @@ abbrev pub close_line : Result Bool CloseRefusal → List ℕ
 close_line (Ok new) = closed_text new
 close_line (Err refusal) = close_refusal_text refusal
 
--- the epoch that begins, and what was undone
+-- the text for an answer to `turn`: the epoch that begins, and what was undone
 abbrev pub turn_line : ℕ → Result (List Digest) TurnRefusal → List ℕ
 turn_line epoch (Ok undone) = turned_text epoch undone
 turn_line epoch (Err refusal) = turn_refusal_text refusal
@@ -133,7 +133,7 @@ effects_line (Some e) = effects_text e
 
 -- ---- the state in numbers
 
--- how many of these held certificates are of executed transactions, and this many more
+-- `count`, plus how many of these held certificates are of transactions that the member has executed
 abbrev pub executed_among : Member → ℕ → List Held → ℕ
 executed_among m count [] = count
 executed_among m count (h ∷ held) = executed_among m (if is_some (executed_digest h.digest m) then count + 1 else count) held
@@ -149,7 +149,7 @@ counts_of m = record {
   halted = is_some (fork_of m);
 }
 
--- ---- all of them, of a member that is up
+-- ---- the text for any request to a member that is up
 
 abbrev pub Says : Accepting → Seated → Request → List ℕ → Type 0
 Says accepts seat (request.Vote bytes) text = VoteSays accepts seat.member (vote_answer (rules_of_seat seat accepts) seat.state bytes) text

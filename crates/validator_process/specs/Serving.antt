@@ -29,7 +29,7 @@ ended line = line ++ 10 ∷ []
 
 -- ---- one line
 
--- the request that it is; a line that is too long is none
+-- the request that a line is, none if it is no request or too long
 abbrev pub request_in : List ℕ → Option Request
 request_in line = if nat_le (length line) longest_line then request_of line else None
 
@@ -57,7 +57,7 @@ Answers accepts seat x = IsAnswer accepts seat (request_in x.line) x.text
 
 -- ---- lines in order
 
--- each is answered by the member after those before it
+-- each line has the answer of the member after the lines before it
 abbrev pub AreAnswered : Accepting → Seated → List Exchange → Type 0
 AreAnswered accepts seat [] = Unit {0}
 AreAnswered accepts seat (x ∷ xs) = Answers accepts seat x × AreAnswered accepts (seat_behind_line accepts seat x.line) xs
@@ -70,12 +70,12 @@ abbrev pub spelled : Option Record → List (List ℕ)
 spelled None = []
 spelled (Some x) = journals.journal_record.spell x ∷ []
 
--- the records that they leave, in order
+-- the records that these lines leave, in order
 abbrev pub records_left : Accepting → Seated → List Exchange → List (List ℕ)
 records_left accepts seat [] = []
 records_left accepts seat (x ∷ xs) = spelled (due_for_line accepts seat x.line) ++ records_left accepts (seat_behind_line accepts seat x.line) xs
 
--- observable lists grew by these records of a member
+-- the lists with these records of a member at the end of its own
 abbrev pub with_records : Journals → ℕ → List (List ℕ) → Journals
 with_records lists m records = fold (λ (l : Journals) bytes. with_record l m bytes) lists records
 
@@ -83,7 +83,7 @@ abbrev pub AddsRecords : Option Journals → Option Journals → ℕ → List (L
 AddsRecords None now m records = Unit {0}
 AddsRecords (Some lists) now m records = now ≡ Some (with_records lists m records)
 
--- the lines, each with its end, were pending, or were read after what was
+-- these whole lines were taken: with their ends they are the first of what was pending and of what was read after it
 pub record ReadsLines (pending pending' : List ℕ) (left left' : Option (List ℕ)) (xs : List Exchange) : Type 0 where
   pub bytes : List ℕ
   pub read : Consumes left left' bytes
@@ -112,7 +112,7 @@ pub record Serves (accepts : Accepting) (xs : List Exchange) (old new : Around) 
 
 -- ---- one line more
 
--- a request, or none, is answered: the answer is written, and the record is kept
+-- a line was answered (`q` is its request, none if it is no request): the answer is written, and its record is kept
 pub record IsServed (accepts : Accepting) (q : Option Request) (held held' : Option (List ℕ)) (kept kept' : Option Journals) (seat seat' : Seated) : Type 0 where
   pub text : List ℕ
   pub answers : IsAnswer accepts seat q text
@@ -120,19 +120,19 @@ pub record IsServed (accepts : Accepting) (q : Option Request) (held held' : Opt
   pub keeps : AddsLeft kept kept' seat.member (due_for_request accepts seat q)
   pub becomes : seat' ≡ seat_behind_request accepts seat q
 
--- it is not answered: nothing is written, and the record may be kept
+-- a line was not answered: nothing is written, and its record may be kept
 pub record IsRefused (accepts : Accepting) (q : Option Request) (held held' : Option (List ℕ)) (kept kept' : Option Journals) (seat : Seated) : Type 0 where
   pub writes : Keeps held held'
   pub keeps : MayAddLeft kept kept' seat.member (due_for_request accepts seat q)
 
--- a prefix of the answer is written, and the record is kept
+-- a line was answered in part: a prefix of the answer is written, and its record is kept
 pub record IsHalfSaid (accepts : Accepting) (q : Option Request) (held held' : Option (List ℕ)) (kept kept' : Option Journals) (seat : Seated) : Type 0 where
   pub text : List ℕ
   pub answers : IsAnswer accepts seat q text
   pub writes : AppendsFront held held' text
   pub keeps : AddsLeft kept kept' seat.member (due_for_request accepts seat q)
 
--- a stop ended it so; a fault of the journal comes only if a record is due
+-- how far a line came when this stop ended the process; a fault of the journal comes only if a record is due
 abbrev pub IsStoppedBy : Accepting → Stop → Option Request → Option (List ℕ) → Option (List ℕ) → Option Journals → Option Journals → Seated → Type 0
 IsStoppedBy accepts stop.ReadFault q held held' kept kept' seat = ⊥
 IsStoppedBy accepts stop.WriteFault q held held' kept kept' seat = IsHalfSaid accepts q held held' kept kept' seat
@@ -147,7 +147,7 @@ pub record ServesOne (accepts : Accepting) (x : Exchange) (old new : Around) : T
   pub keeps : AddsLeft old.kept new.kept old.seat.member (due_for_line accepts old.seat x.line)
   pub seat : new.seat ≡ seat_behind_line accepts old.seat x.line
 
--- there is no line more
+-- the source is at its end: no line was read, and nothing is written or kept
 pub record IsOver (old new : Around) : Type 0 where
   pub ends : ReadsEnd old.pending old.left new.left
   pub writes : new.held ≡ old.held
@@ -159,19 +159,19 @@ Next accepts old new false = IsOver old new
 
 -- ---- the line at which a process is cut
 
--- it was not read
+-- the process was cut off before it read a line
 pub record IsUnread (old new : Around) : Type 0 where
   pub writes : Keeps old.held new.held
   pub keeps : KeepsJournals old.kept new.kept
 
--- it was read, and not answered: nothing was written, and its record may be kept
+-- the line was read and not answered: nothing was written, and its record may be kept
 pub record IsUnanswered (accepts : Accepting) (old new : Around) : Type 0 where
   pub line : List ℕ
   pub reads : ReadsLine old.pending new.pending old.left new.left line
   pub writes : Keeps old.held new.held
   pub keeps : MayAddLeft old.kept new.kept old.seat.member (due_for_line accepts old.seat line)
 
--- it was read, its record is due, and the journal met a fault: nothing was written, and the record may be kept
+-- the line was read, its record was due, and the journal met a fault: nothing was written, and the record may be kept
 pub record IsUnkept (accepts : Accepting) (old new : Around) : Type 0 where
   pub line : List ℕ
   pub reads : ReadsLine old.pending new.pending old.left new.left line
@@ -179,7 +179,7 @@ pub record IsUnkept (accepts : Accepting) (old new : Around) : Type 0 where
   pub writes : Keeps old.held new.held
   pub keeps : MayAddLeft old.kept new.kept old.seat.member (due_for_line accepts old.seat line)
 
--- it was answered, and a prefix of the answer was written: its record is kept
+-- the line was answered, and a prefix of the answer was written: its record is kept
 pub record IsUnwritten (accepts : Accepting) (old new : Around) : Type 0 where
   pub exchange : Exchange
   pub reads : ReadsLine old.pending new.pending old.left new.left exchange.line
@@ -190,7 +190,7 @@ pub record IsUnwritten (accepts : Accepting) (old new : Around) : Type 0 where
 abbrev pub IsCutAt : Accepting → Around → Around → Type 0
 IsCutAt accepts old new = IsUnread old new ⊎ IsUnanswered accepts old new ⊎ IsUnwritten accepts old new
 
--- how it was cut, by the stop
+-- how far the last line came when this stop cut the process off
 abbrev pub IsCutBy : Accepting → Stop → Around → Around → Type 0
 IsCutBy accepts stop.ReadFault old new = IsUnread old new
 IsCutBy accepts stop.WriteFault old new = IsUnwritten accepts old new
@@ -208,7 +208,7 @@ pub record ServesAll (accepts : Accepting) (old new : Around) : Type 0 where
   pub writes : new.held ≡ last.held
   pub keeps : new.kept ≡ last.kept
 
--- a stop cut it: some lines were served, and one more in part
+-- a stop cut the process off: some lines were served, and one more came as far as the stop allows
 pub record ServesSome (accepts : Accepting) (why : Stop) (old new : Around) : Type 0 where
   pub exchanges : List Exchange
   pub last : Around

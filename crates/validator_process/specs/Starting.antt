@@ -19,7 +19,7 @@ use Rattle.validator_process.specs.declared.stop.Stop.TheVariants as stop
 use Rattle.validator_process.specs.Genesis.{ready_line, scene_of, started_in}
 use Rattle.validator_process.specs.Serving.{ServesAll, ServesSome, around, ended}
 
--- a stop that is none of a stream
+-- a stop that is no fault of source or sink
 abbrev pub IsInside : Stop → Type 0
 IsInside stop.ReadFault = ⊥
 IsInside stop.WriteFault = ⊥
@@ -39,18 +39,19 @@ OpensAs said (Err (unstarted.Stopped why)) = why ≡ stop.OutOfMemory
 
 -- ---- from the records of a keeper
 
--- the member started from its records, or one of them is bad
+-- the answer of a start: the member as it starts from its records, or the line that names a bad one; a stop says
+-- nothing of them
 abbrev pub StartsAs : Accepting → Scene → ℕ → Option Journals → Result Seated Unstarted → Type 0
 StartsAs accepts scene m told (Ok seat) = (records : List (List ℕ)) × IsJournal told m records × (started_in accepts scene m records ≡ Ok seat)
 StartsAs accepts scene m told (Err (unstarted.Refused line)) = (records : List (List ℕ)) × IsJournal told m records × (started_in accepts scene m records ≡ Err line)
 StartsAs accepts scene m told (Err (unstarted.Stopped why)) = IsInside why
 
--- ---- a member that is up says so, and serves
+-- ---- a member that started writes its `ready` line, and serves
 
 abbrev pub start_bytes : StartLine → List ℕ
 start_bytes line = ended (start_text line)
 
--- it said where it starts from, and served to the end of the source
+-- the member wrote its `ready` line, and served to the end of the source
 pub record LivesWhole (accepts : Accepting) (seat : Seated) (left left' held held' : Option (List ℕ)) (kept kept' : Option Journals) : Type 0 where
   pub said : Option (List ℕ)
   pub pending : List ℕ
@@ -58,7 +59,7 @@ pub record LivesWhole (accepts : Accepting) (seat : Seated) (left left' held hel
   pub ready : Appends held said (start_bytes (ready_line seat))
   pub serves : ServesAll accepts (around [] left said kept seat) (around pending left' held' kept' last)
 
--- it said so, and served some lines until a stop
+-- the member wrote its `ready` line, and served some lines until a stop
 pub record LivesSome (accepts : Accepting) (why : Stop) (seat : Seated) (left left' held held' : Option (List ℕ)) (kept kept' : Option Journals) : Type 0 where
   pub said : Option (List ℕ)
   pub pending : List ℕ
@@ -73,14 +74,14 @@ IsOfLine stop.WriteFault = Unit {0}
 IsOfLine stop.KeepFault = ⊥
 IsOfLine stop.OutOfMemory = Unit {0}
 
--- a prefix of a first line is written, and nothing is read and kept
+-- a prefix of the process's first line is written, and nothing is read or kept
 pub record SaysFront (why : Stop) (line : StartLine) (left left' held held' : Option (List ℕ)) (kept kept' : Option Journals) : Type 0 where
   pub by : IsOfLine why
   pub unread : left' ≡ left
   pub writes : AppendsFront held held' (start_bytes line)
   pub keeps : KeepsJournals kept kept'
 
--- how a stop cut it
+-- how far a member that started came when this stop ended the process: into its first line, or beyond it
 abbrev pub LivesCut : Accepting → Stop → Seated → Option (List ℕ) → Option (List ℕ) → Option (List ℕ) → Option (List ℕ) → Option Journals → Option Journals → Type 0
 LivesCut accepts why seat left left' held held' kept kept' =
     SaysFront why (ready_line seat) left left' held held' kept kept' ⊎ LivesSome accepts why seat left left' held held' kept kept'

@@ -21,7 +21,8 @@ abbrev pub unwritten : OutFault → Stop
 unwritten fault.Failed = stop.WriteFault
 unwritten fault.OutOfMemory = stop.OutOfMemory
 
--- how an append to the log ends a process, if it does: a fault is one of the disk, and all else is running out of memory
+-- the stop after the log's answer to an append, if it is a refusal: a fault of the disk is a fault of the journal, and
+-- all else counts as running out of memory
 abbrev pub unkept : Result (Unit {0}) LogRefusal → Result (Unit {0}) Stop
 unkept (Ok done) = Ok done
 unkept (Err log.DiskFault) = Err stop.KeepFault

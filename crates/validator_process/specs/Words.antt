@@ -16,7 +16,7 @@ serve_in member between = if bytes_eq between (codes "in") then option_map task.
 abbrev pub make_in : List ℕ → List ℕ → List ℕ → Option Task
 make_in name member between = if bytes_eq name (codes "init") && bytes_eq between (codes "in") then option_map task.Make (member_in member) else None
 
--- what the words ask for
+-- the task that the words ask for, none if they ask for none
 unfoldable pub task_in : List (List ℕ) → Option Task
 task_in (first ∷ second ∷ third ∷ fourth ∷ []) = serve_in first third
 task_in (first ∷ second ∷ third ∷ fourth ∷ fifth ∷ []) = make_in first second fourth
@@ -27,7 +27,7 @@ abbrev pub genesis_place : Task → ℕ
 genesis_place (task.Make member) = 2
 genesis_place (task.Serve member) = 1
 
--- the member is one of 64
+-- the member of a task has a number below 64
 abbrev pub IsInRange : Task → Type 0
 IsInRange (task.Make member) = member ≤ 63
 IsInRange (task.Serve member) = member ≤ 63

@@ -1,4 +1,4 @@
-//! `see` and `run`.
+//! Answers to `see` and `run`.
 
 ghost use Rattle.std.specs.Prelude.{◌≡◌, ◌<◌, ◌≤◌, IfOk, IsErrOf, OnOk, true};
 ghost use Rattle.outside.specs.Causes.{Rose};
@@ -20,7 +20,7 @@ use validator_core::Validator;
 use wire_bcs::{OutOfMemory, Seq};
 use world_core::{SeatFault, ask_run, ask_see};
 
-/// The text of an answer to `see`.
+/// The line for a member's answer to `see`, without its end.
 fn see_text(alloc: Global, answer: &Result<Seen, SeeRefusal>) -> Result<Seq<u8>, OutOfMemory>
     ensures { IfOk result (λ text. text ≡ see_line answer.now) }
 {
@@ -32,7 +32,7 @@ fn see_text(alloc: Global, answer: &Result<Seen, SeeRefusal>) -> Result<Seq<u8>,
     Ok(out)
 }
 
-/// `see N ENTRY`
+/// Answers `see N ENTRY`: hands the entry to the member.
 #[tactic(auto, using(crate::proofs::Given::see_says))]
 pub(crate) fn see<D: Keeper, S: Sealer>(
     alloc: Global,
@@ -58,7 +58,7 @@ pub(crate) fn see<D: Keeper, S: Sealer>(
     }
 }
 
-/// The text of an answer to `run`.
+/// The line for a member's answer to `run`, without its end.
 fn run_text(alloc: Global, answer: &Result<Ran, RunRefusal>) -> Result<Seq<u8>, OutOfMemory>
     ensures { IfOk result (λ text. text ≡ run_line answer.now) }
 {
@@ -70,7 +70,7 @@ fn run_text(alloc: Global, answer: &Result<Ran, RunRefusal>) -> Result<Seq<u8>, 
     Ok(out)
 }
 
-/// `run WORKERS`
+/// Answers `run WORKERS`: lets the member run what it holds.
 #[tactic(auto, using(crate::proofs::Given::run_says))]
 pub(crate) fn run<R: Threads + Sync, D: Keeper>(
     rt: &R,

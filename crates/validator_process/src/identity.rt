@@ -44,12 +44,12 @@ pub(crate) fn identity_of(
     Ok(bytes)
 }
 
-/// What the first bytes of a file are.
+/// What the first bytes of a file say of its journal.
 #[derive(Clone, Copy, Debug, PartialEq, Eq)]
 pub(crate) enum Head {
-    /// Those of a journal of this member and this set-up.
+    /// The file is a journal of this member and this set-up.
     Own,
-    /// None of a journal, or of one that was not made to its end.
+    /// The file is no journal, or one whose making was cut off.
     Unmade,
     OtherMember,
     OtherGenesis,
@@ -69,7 +69,7 @@ fn is_mark(bytes: &[u8]) -> bool
     bytes == b"kothaysu validator 1".as_slice()
 }
 
-/// What the parts of the first bytes of a file are.
+/// What the parts of the first bytes of a file say of its journal.
 fn head_of_parts(
     member: u32,
     genesis: &Digest,
@@ -104,7 +104,7 @@ fn head_of(bytes: &[u8], member: u32, genesis: &Digest) -> Head
     head_of_parts(member, genesis, gate, text, number, digest)
 }
 
-/// What the first bytes of a disk are. Writes nothing, and takes no memory.
+/// What the first bytes of a disk say of its journal. Writes nothing, and takes no memory.
 pub(crate) fn read_head<F: Disk>(
     disk: &mut F,
     member: u32,

@@ -1,4 +1,4 @@
-//! The record that is due, which is appended to the log before a line is answered.
+//! Keeping the record that is due: it is appended to the log before a line is answered.
 
 ghost use Rattle.std.specs.Prelude.{◌≡◌, ◌<◌, ◌≤◌, ◌^◌, ◌⊎◌, IfErr, IsErrOf, Ok, OnErr, OnOk, is_some, length, true};
 ghost use Rattle.outside.specs.Causes.{Rose};

@@ -1,4 +1,4 @@
-//! `object`, `version`, `effects` and `state`: what a member has.
+//! Answers to `object`, `version`, `effects` and `state`: what a member has.
 
 ghost use Rattle.std.specs.Prelude.{◌≡◌, ◌+◌, ◌≤◌, IfOk, is_some, length, option_copied, option_map};
 ghost use Rattle.protocol_spec.specs.Member.Calls.{effects_of};
@@ -15,7 +15,7 @@ use std::alloc::Global;
 use validator_core::Validator;
 use wire_bcs::{OutOfMemory, Seq};
 
-/// An object that is there or not.
+/// The line for an object, or `none` if it is not there.
 fn object_text(alloc: Global, object: Option<&Object>) -> Result<Seq<u8>, OutOfMemory>
     ensures { IfOk result (λ text. text ≡ object_line (option_copied object.entry)) }
 {
@@ -27,7 +27,7 @@ fn object_text(alloc: Global, object: Option<&Object>) -> Result<Seq<u8>, OutOfM
     Ok(out)
 }
 
-/// `object ID`
+/// Answers `object ID`: the live object of this id.
 pub(crate) fn object(
     alloc: Global,
     validator: &Validator,
@@ -38,7 +38,7 @@ pub(crate) fn object(
     object_text(alloc, validator.live(&ObjectId(id)))
 }
 
-/// `version ID V`
+/// Answers `version ID V`: the object at this version, which the member knows in its present epoch.
 pub(crate) fn version(
     alloc: Global,
     validator: &Validator,
@@ -54,7 +54,7 @@ pub(crate) fn version(
     object_text(alloc, validator.object(&key))
 }
 
-/// The text of effects. A list of more than 2147483647 objects counts as running out of memory.
+/// The line for effects. A list of more than 2147483647 objects counts as running out of memory.
 fn effects_text(alloc: Global, effects: &Effects) -> Result<Seq<u8>, OutOfMemory>
     ensures { IfOk result (λ text. text ≡ effects_text effects.now) }
 {
@@ -66,7 +66,7 @@ fn effects_text(alloc: Global, effects: &Effects) -> Result<Seq<u8>, OutOfMemory
     Ok(out)
 }
 
-/// `none`
+/// The line `none`.
 fn none_text(alloc: Global) -> Result<Seq<u8>, OutOfMemory>
     ensures { IfOk result (λ text. text ≡ none_text) }
 {
@@ -75,7 +75,7 @@ fn none_text(alloc: Global) -> Result<Seq<u8>, OutOfMemory>
     Ok(out)
 }
 
-/// `effects ID`
+/// Answers `effects ID`: the effects of a transaction that the member has executed in its present epoch.
 pub(crate) fn effects(
     alloc: Global,
     validator: &Validator,
@@ -128,7 +128,7 @@ fn counts_of(validator: &Validator) -> Result<Counts, OutOfMemory>
     })
 }
 
-/// `state`
+/// Answers `state`: the state of the member in numbers.
 pub(crate) fn state(alloc: Global, validator: &Validator) -> Result<Seq<u8>, OutOfMemory>
     ensures { IfOk result (λ text. text ≡ state_text (counts_of validator.now.state)) }
 {

@@ -1,4 +1,5 @@
-//! Making a journal.
+//! Making a journal, the task `init`: appending the first record, which says of which member and set-up the journal
+//! is.
 
 ghost use Rattle.std.specs.Prelude.{◌≡◌, ◌⊎◌, ◌≤◌, IfErr, IfOk, IsErrOf, OnErr, OnOk, length, true};
 ghost use Rattle.outside.specs.Causes.{Rose};

@@ -1,4 +1,4 @@
-//! Requests, one after the other.
+//! Serving: reads lines one after the other, and answers each once its record is kept.
 
 ghost use Rattle.std.specs.Prelude.{◌≡◌, ◌<◌, ◌≤◌, [], None, IfErr, IfOk, IsErrOf, OnErr, OnOk, length, slice_get, true};
 ghost use Rattle.std.specs.Io.KnownBytes.{Appends};
@@ -70,7 +70,7 @@ fn answer_request<R: Threads + Sync, D: Keeper, S: Sealer>(
     }
 }
 
-/// The line that answers a line, which is not too long.
+/// The answer to a line of the source, with its end; the line is not too long.
 #[tactic(auto, using(validator_core::proofs::Settling::keeps_same))]
 fn answer_line<R: Threads + Sync, D: Keeper, S: Sealer>(
     rt: &R,
@@ -130,7 +130,8 @@ fn first_record(paper: &mut MemKeeper, member: u32) -> Result<Option<Seq<u8>>, O
     }
 }
 
-/// The line that answers a line, which is not too long, and the encoding of the record that is due. Nothing is kept.
+/// The answer to a line of the source, and the encoding of the record that is due, if any. The record is not kept yet:
+/// the member writes it to a keeper in memory. The line is not too long.
 #[tactic(auto, using(world_core::proofs::Replying::paper_due))]
 fn answer_on_paper<R: Threads + Sync, S: Sealer>(
     rt: &R,
@@ -208,7 +209,7 @@ fn say_bad<K: Sink>(sink: &mut K) -> Result<(), Stop>
     say(sink, b"bad request\n".as_slice())
 }
 
-/// Says that a line is not a request.
+/// Answers a line that is not a request: writes `bad request`.
 #[tactic(auto, using(crate::proofs::Served::bad_served, crate::proofs::Served::bad_half_said, validator_core::proofs::Settling::keeps_same))]
 fn serve_bad<S: Sealer, D: Keeper, K: Sink>(
     validator: &Validator,
@@ -228,7 +229,7 @@ fn serve_bad<S: Sealer, D: Keeper, K: Sink>(
     }
 }
 
-/// Reads the next line, and answers it. Answers whether there was one.
+/// Reads the next line, and answers it. Returns whether there was one.
 #[tactic(auto, using(crate::proofs::Served::next_line, crate::proofs::Served::next_long, crate::proofs::Served::next_over, crate::proofs::Served::cut_long))]
 fn serve_next<R: Threads + Sync, F: Disk, S: Sealer, I: Source, K: Sink>(
     rt: &R,

@@ -1,4 +1,4 @@
-//! The log of a journal as the keeper of a start, which only reads.
+//! The log of a journal as the keeper from which a member starts: it is only read.
 
 ghost use Rattle.std.specs.Prelude.{◌≡◌, ℕ, Bool, false, List, [], None, Option, length, slice_index};
 ghost use Rattle.disk_log.specs.Disk.{History};
@@ -10,7 +10,7 @@ use outside::{Keeper, OutFault};
 use std::marker::{Brand, Model, PhantomData};
 use wire_bcs::Seq;
 
-/// What a log was when a start began. Each start picks it.
+/// What a log was when a start began, as types that only contracts see. Each start picks its own.
 pub(crate) trait Opening {
     ghost history: { Option History };
 

@@ -57,7 +57,7 @@ pub(crate) fn say_start<K: Sink>(alloc: Global, start: &StartLine, sink: &mut K)
     }
 }
 
-/// Says that the member is up, and answers requests to the end of the source.
+/// Writes the `ready` line of a member that started, and answers requests to the end of the source.
 #[tactic(auto, using(crate::proofs::Lived::whole, crate::proofs::Lived::some, crate::proofs::Lived::unready, crate::proofs::Lived::unsaid))]
 fn serve_member<R: Threads + Sync, F: Disk, S: Sealer, I: Source, K: Sink>(
     rt: &R,
@@ -126,7 +126,7 @@ fn status_of(start: &StartLine) -> u8
     }
 }
 
-/// Says how a process starts or why it does not. Answers the status.
+/// Writes the one line of a process that ends with it. Returns the status.
 #[tactic(auto, using(crate::proofs::Ended::said_whole, crate::proofs::Ended::said_cut))]
 pub(crate) fn say_ended<K: Sink>(alloc: Global, start: &StartLine, sink: &mut K) -> u8
     ensures { IsSaid start.now (K.held sink.old) (K.held sink.new) (K.faults sink.old) (K.faults sink.new) result }
@@ -137,7 +137,7 @@ pub(crate) fn say_ended<K: Sink>(alloc: Global, start: &StartLine, sink: &mut K)
     }
 }
 
-/// Says why no member starts. Answers the status.
+/// Writes why no member starts, if a line says it. Returns the status.
 pub(crate) fn say_unstarted<K: Sink>(alloc: Global, why: Unstarted, sink: &mut K) -> u8
     ensures { SaysUnstarted why (K.held sink.old) (K.held sink.new) (K.faults sink.old) (K.faults sink.new) result }
 {
@@ -147,7 +147,7 @@ pub(crate) fn say_unstarted<K: Sink>(alloc: Global, why: Unstarted, sink: &mut K
     }
 }
 
-/// Says why a journal was not opened. Answers the status.
+/// Writes why a journal was not opened, if a line says it. Returns the status.
 pub(crate) fn say_unopened<K: Sink>(alloc: Global, why: Unopened, sink: &mut K) -> u8
     ensures { SaysUnopened why (K.held sink.old) (K.held sink.new) (K.faults sink.old) (K.faults sink.new) result }
 {

@@ -1,4 +1,4 @@
-//! `end`, `ack` and `checkpoint`: what a member states.
+//! Answers to `end`, `ack` and `checkpoint`: what a member states, under its seal.
 
 ghost use Rattle.std.specs.Prelude.{◌≡◌, IfOk, IfSome, IsErrOf, length, option_copied, option_map, slice_get, true};
 ghost use Rattle.chain_messages.specs.Messages as messages;
@@ -22,7 +22,7 @@ use std::alloc::Global;
 use validator_core::Validator;
 use wire_bcs::{OutOfMemory, Seq};
 
-/// The text of an answer to `end`.
+/// The line for a member's answer to `end`, without its end.
 fn end_text(alloc: Global, answer: &Result<Sealed, EndRefusal>) -> Result<Seq<u8>, OutOfMemory>
     requires short { IfOk answer.now messages.sealed.short }
     ensures { IfOk result (λ text. text ≡ end_line answer.now) }
@@ -55,7 +55,7 @@ fn ask_end<S: Sealer>(
     }
 }
 
-/// `end`
+/// Answers `end`: the member's End of its epoch, or why it says none.
 #[tactic(auto, using(crate::proofs::Given::end_says, crate::proofs::Shorts::end_given_short))]
 pub(crate) fn end<S: Sealer>(
     alloc: Global,
@@ -69,7 +69,7 @@ pub(crate) fn end<S: Sealer>(
     end_text(alloc, &answer)
 }
 
-/// The text of an answer to `ack`.
+/// The line for a member's answer to `ack`, without its end.
 fn ack_text(alloc: Global, answer: &Result<Sealed, AckRefusal>) -> Result<Seq<u8>, OutOfMemory>
     requires short { IfOk answer.now messages.sealed.short }
     ensures { IfOk result (λ text. text ≡ ack_line answer.now) }
@@ -102,7 +102,7 @@ fn ask_ack<S: Sealer>(
     }
 }
 
-/// `ack ID`
+/// Answers `ack ID`: the member's acknowledgement of a transaction, or why it gives none.
 #[tactic(auto, using(crate::proofs::Given::ack_says, crate::proofs::Shorts::ack_given_short))]
 pub(crate) fn ack<S: Sealer>(
     alloc: Global,
@@ -163,7 +163,7 @@ fn stated_text<S: Sealer>(
     Ok(out)
 }
 
-/// `none`
+/// The line `none`.
 fn none_text(alloc: Global) -> Result<Seq<u8>, OutOfMemory>
     ensures { IfOk result (λ text. text ≡ none_text) }
 {
@@ -172,7 +172,7 @@ fn none_text(alloc: Global) -> Result<Seq<u8>, OutOfMemory>
     Ok(out)
 }
 
-/// `checkpoint N`
+/// Answers `checkpoint N`: a checkpoint that the member has built, and its statement of it.
 pub(crate) fn checkpoint<S: Sealer>(
     alloc: Global,
     validator: &Validator,

@@ -32,7 +32,7 @@ impl Stop {
     }
 }
 
-/// A fault of the source.
+/// The stop for a fault of the source.
 pub(crate) fn unread(fault: OutFault) -> Stop
     ensures { result ≡ unread fault }
 {
@@ -42,7 +42,7 @@ pub(crate) fn unread(fault: OutFault) -> Stop
     }
 }
 
-/// A fault of the sink.
+/// The stop for a fault of the sink.
 pub(crate) fn unwritten(fault: OutFault) -> Stop
     ensures { result ≡ unwritten fault }
 {

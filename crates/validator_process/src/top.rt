@@ -1,4 +1,4 @@
-//! The program.
+//! The [`validator`] call: the whole program over any source, sink and disk.
 
 ghost use Rattle.std.specs.Prelude.{◌≡◌, bytes_eq};
 ghost use Rattle.quorum_core.specs.Seals.{keyed_seal};

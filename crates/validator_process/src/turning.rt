@@ -1,4 +1,4 @@
-//! `close` and `turn`.
+//! Answers to `close` and `turn`.
 
 ghost use Rattle.std.specs.Prelude.{◌≡◌, ◌<◌, ◌≤◌, IfOk, IsErrOf, OnOk, true};
 ghost use Rattle.outside.specs.Causes.{Rose};
@@ -18,7 +18,7 @@ use validator_core::Validator;
 use wire_bcs::{OutOfMemory, Seq};
 use world_core::{SeatFault, ask_close, ask_turn};
 
-/// The text of an answer to `close`.
+/// The line for a member's answer to `close`, without its end.
 fn close_text(alloc: Global, answer: &Result<bool, CloseRefusal>) -> Result<Seq<u8>, OutOfMemory>
     ensures { IfOk result (λ text. text ≡ close_line answer.now) }
 {
@@ -30,7 +30,7 @@ fn close_text(alloc: Global, answer: &Result<bool, CloseRefusal>) -> Result<Seq<
     Ok(out)
 }
 
-/// `close`
+/// Answers `close`: closes the member's epoch.
 #[tactic(auto, using(crate::proofs::Given::close_says))]
 pub(crate) fn close<D: Keeper>(
     alloc: Global,
@@ -53,7 +53,7 @@ pub(crate) fn close<D: Keeper>(
     }
 }
 
-/// The text of an answer to `turn`, after which this epoch is the member's.
+/// The line for a member's answer to `turn`, without its end; `epoch` is the member's epoch after it.
 fn turn_text(
     alloc: Global,
     epoch: u64,
@@ -69,7 +69,7 @@ fn turn_text(
     Ok(out)
 }
 
-/// `turn`
+/// Answers `turn`: turns the member to the next epoch.
 #[tactic(auto, using(crate::proofs::Given::turn_says))]
 pub(crate) fn turn<D: Keeper>(
     alloc: Global,

@@ -1,4 +1,4 @@
-//! `vote` and `hold`.
+//! Answers to `vote` and `hold`.
 
 ghost use Rattle.std.specs.Prelude.{◌≡◌, ◌++◌, ◌<◌, ◌≤◌, IfOk, IsErrOf, OnOk, true};
 ghost use Rattle.chain_messages.specs.Messages as messages;
@@ -22,7 +22,7 @@ use validator_core::Validator;
 use wire_bcs::{OutOfMemory, Seq};
 use world_core::{SeatFault, ask_hold, ask_vote};
 
-/// The text of an answer to `vote`.
+/// The line for a member's answer to `vote`, without its end.
 fn vote_text(alloc: Global, answer: &Result<Voted, VoteRefusal>) -> Result<Seq<u8>, OutOfMemory>
     requires short { IfOk answer.now (λ v. messages.sealed.short v.sealed) }
     ensures { IfOk result (λ text. text ≡ vote_line answer.now) }
@@ -35,7 +35,7 @@ fn vote_text(alloc: Global, answer: &Result<Voted, VoteRefusal>) -> Result<Seq<u
     Ok(out)
 }
 
-/// `vote SIGNED_TX`
+/// Answers `vote SIGNED_TX`: the member's vote, or why it gives none.
 #[tactic(auto, using(crate::proofs::Given::vote_says, crate::proofs::Shorts::voted_short))]
 pub(crate) fn vote<D: Keeper, S: Sealer>(
     alloc: Global,
@@ -72,7 +72,7 @@ fn certified(alloc: Global, bytes: &[u8]) -> Result<Option<Digest>, OutOfMemory>
     }
 }
 
-/// The text of an answer to `hold`.
+/// The line for a member's answer to `hold`, without its end.
 fn hold_text(
     alloc: Global,
     answer: &Result<bool, HoldRefusal>,
@@ -88,7 +88,7 @@ fn hold_text(
     Ok(out)
 }
 
-/// `hold CERTIFICATE`
+/// Answers `hold CERTIFICATE`: hands the certificate to the member.
 #[tactic(auto, using(crate::proofs::Given::hold_says, validator_core::proofs::Settling::keeps_same))]
 pub(crate) fn hold<D: Keeper, S: Sealer>(
     alloc: Global,

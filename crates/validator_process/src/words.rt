@@ -9,7 +9,7 @@ use schedule_text::number_in;
 /// The highest number of a member.
 const MOST_MEMBER: u64 = 63;
 
-/// What the words ask for.
+/// What a process of a member is to do.
 #[derive(Clone, Copy, Debug, PartialEq, Eq)]
 pub enum Task {
     /// `init M GENESIS in FILE`: the journal is made.

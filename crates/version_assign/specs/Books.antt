@@ -1,4 +1,4 @@
--- What an admission is seen as, and what its tables stand for.
+-- The tables of an admission: the definition's admission that they stand for, and what keeps them consistent.
 use Rattle.std.specs.Prelude.{◌≡◌, ℕ, ◌+◌, ◌≤◌, ◌<◌, ◌^◌, nat_le, Bool, true, false, ◌||◌, ◌&&◌, not, List, [], ◌∷◌, map, filter_map, length, count_by, Option, Some, None, is_some, option_map, slice_get, if◌then◌else◌}
 use Rattle.std.specs.List.{list_any}
 use Rattle.std.specs.Map.{lookup}
@@ -62,28 +62,29 @@ shown b = record { opening = opening_of b; writers = b.writers; admission = admi
 
 -- ---- how the tables are kept
 
--- each opening object is shared, and stands under its id
+-- looking up an id in the table is a search of its objects, and they are all shared
 pub record IsOpening (entries : List (ObjectId × Object)) : Type 0 where
   pub at : (id : ObjectId) → lookup (id_eq id) entries ≡ opening_object (map object_in entries) id
   pub shared : (id : ObjectId) → is_shared_object (opening_object (map object_in entries) id) ≡ is_some (lookup (id_eq id) entries)
 
--- the last that wrote the object, and else what the first said that named it
+-- the current version of an object after these admissions, none if no certificate has named it: that of its last
+-- writer, else where the first certificate that names it says that it begins
 abbrev pub stands : List Object → List Admitted → ObjectId → Option Standing
 stands opening admitted id =
     first_some
     (option_map standing_after (last_where (writes id) admitted) ∷
     first_of (beginning_by opening id) (map cert_of admitted) ∷ [])
 
--- of each object its current version and, if there is a limit, the number of its writers since the mark
+-- each line has the current version of its object and, if there is a limit, the number of its writers since the mark
 pub record AreLines (limit : Option ℕ) (opening : List Object) (a : Admission) (lines : LineMap) : Type 0 where
   pub standing : (id : ObjectId) → (line_at lines id).standing ≡ stands opening a.admitted id
   pub writers : (n : ℕ) → limit ≡ Some n → (id : ObjectId) → (line_at lines id).writers ≡ count_by (writes id) (since_mark a)
 
--- what the shared inputs would be assigned, if nobody had named them before
+-- what a certificate's shared inputs are assigned if it is the first to name each of them
 abbrev pub begun_of : List Object → Certificate → List Assigned
 begun_of opening c = filter_map (begun opening) (joined_inputs c)
 
--- a certificate that waits
+-- a row that waits: its certificate has a valid shape and an origin for each object, and its shared inputs have lines
 pub record IsRow (opening : List Object) (lines : LineMap) (r : Row) : Type 0 where
   pub shaped : shape_fault r.held.cert.tx ≡ None
   pub origins : length r.held.cert.origins ≡ length (objects_of r.held.cert.tx)
@@ -93,12 +94,12 @@ pub record IsRow (opening : List Object) (lines : LineMap) (r : Row) : Type 0 wh
 pub record AreRows (opening : List Object) (lines : LineMap) (rows : List (Option Row)) : Type 0 where
   pub at : (place : ℕ) (r : Row) → row_at rows place ≡ Some r → IsRow opening lines r
 
--- an admitted certificate: what it writes is among what it was assigned
+-- an admitted certificate: each object that was assigned has a line, and each that it writes was assigned
 pub record IsLet (lines : LineMap) (e : Digest × Admit) : Type 0 where
   pub lined : are_lined lines e.1.assigned ≡ true
   pub named : (id : ObjectId) → writes id (admitted_as e) ≡ true → list_any (λ (x : Assigned). id_eq id x.id) e.1.assigned ≡ true
 
--- a row stands at the place of its digest
+-- rows and digests stand side by side: each row that still waits has the digest at its place
 abbrev pub Aligned : List (Option Row) → List Digest → Type 0
 Aligned [] [] = Unit {0}
 Aligned [] (k ∷ ks) = ⊥

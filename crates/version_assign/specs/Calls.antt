@@ -1,4 +1,4 @@
--- What an admission is seen as, and what its calls make of it.
+-- What contracts see of an `Admission`, and what each of its calls makes of that.
 use Rattle.std.specs.Prelude.{ℕ, Bool, List, filter, find, map, drop, length, Option, Some, None, option_map}
 use Rattle.digest_core.specs.declared.Digest.{Digest}
 use Rattle.chain_types.specs.declared.objects.Object.{Object}
@@ -28,23 +28,23 @@ origins_of a = a.cert.origins
 abbrev pub version_of : Admission → Digest → Option ℕ
 version_of a tx = option_map (λ (x : Admitted). x.version) (find (λ (x : Admitted). digest_eq x.digest tx) a.admitted)
 
--- before the first entry
+-- an epoch before its first entry, over the shared ones of these opening objects
 abbrev pub opened : List Object → Option ℕ → Admitting
 opened objects writers = record { opening = filter is_shared_one objects; writers = writers; admission = nothing_admitted }
 
--- a certificate's entry
+-- after the entry of a certificate, with all that it lets in
 abbrev pub with_entry : Admitting → Held → Admitting
 with_entry a h = record a { admission = entered a.writers a.opening a.admission h }
 
--- a Commit mark, after its cut
+-- after a Commit mark, with all that it lets in
 abbrev pub with_mark : Admitting → Admitting
 with_mark a = record a { admission = passed_mark a.writers a.opening a.admission }
 
--- what was admitted is in a checkpoint
+-- after a cut: what was admitted before it no longer counts for the limit of writers
 abbrev pub with_cut : Admitting → Admitting
 with_cut a = record a { admission = record a.admission { marked = length a.admission.admitted } }
 
--- the transactions of the next checkpoint
+-- the transactions admitted since the last cut or mark, which the next checkpoint has
 abbrev pub uncut : Admitting → List Digest
 uncut a = map digest_of_admitted (since_mark a.admission)
 

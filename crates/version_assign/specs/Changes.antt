@@ -19,7 +19,7 @@ HasId id (Some o) = o.id ≡ id
 abbrev pub IsOwn : Change → Type 0
 IsOwn c = HasId c.id c.lives
 
--- what stands under an id after a change, and after all of them
+-- the shared object under an id after a change, if it was `o` before
 abbrev pub changed_at : Change → ObjectId → Option Object → Option Object
 changed_at c id o = if id_eq id c.id then if_shared c.lives else o
 
@@ -32,7 +32,7 @@ changed_by (c ∷ cs) id o = changed_by cs id (changed_at c id o)
 abbrev pub Shelved : Type 0
 Shelved = List (ObjectId × Object)
 
--- a shared object of the id, or nothing
+-- what a table has under an id, if anything, is a shared object of this id
 abbrev pub IsSharedUnder : ObjectId → Option Object → Type 0
 IsSharedUnder id None = Unit {0}
 IsSharedUnder id (Some o) = (o.id ≡ id) × (is_shared o.owner ≡ true)
@@ -46,7 +46,7 @@ Puts old new id o = (q : ObjectId) → lookup (id_eq q) new ≡ (if id_eq q id t
 abbrev pub Changes : Shelved → Shelved → List Change → Type 0
 Changes old new changes = (q : ObjectId) → lookup (id_eq q) new ≡ changed_by changes q (lookup (id_eq q) old)
 
--- with the changes that are left, the table becomes what it becomes with all of them
+-- loop: applying the remaining changes to the table as it is now gives what all changes give from the old one
 pub record ChangesOn (old now : Shelved) (all rest : List Change) : Type 0 where
   pub own : Each IsOwn rest
   pub shared : AreShared now

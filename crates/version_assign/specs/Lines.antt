@@ -1,5 +1,5 @@
--- What is kept of each shared object, and how an admitted transaction moves it. Source: Sui Lutris (shared
--- versions); that writers are counted from mark to mark is this profile's own.
+-- A line for each shared object that a certificate named: its current version with the writer, and its writers since
+-- the mark. Source: Sui Lutris (shared versions); that writers are counted from mark to mark is this profile's own.
 use Rattle.std.specs.Prelude.{ℕ, ◌+◌, nat_lt, max, Bool, true, false, List, [], ◌∷◌, ◌++◌, fold, Option, Some, None, is_some, unwrap_or, if◌then◌else◌}
 use Rattle.std.specs.List.{list_all}
 use Rattle.std.specs.Map.{lookup}
@@ -19,7 +19,7 @@ use Rattle.version_assign.specs.declared.lines.Line.{Line}
 abbrev pub LineMap : Type 0
 LineMap = List (ObjectId × Line)
 
--- nobody named the object, and nobody wrote it
+-- the line of an object that no certificate has named
 abbrev pub no_line : Line
 no_line = record { standing = None; writers = 0 }
 
@@ -29,13 +29,13 @@ line_at lines id = unwrap_or (lookup (id_eq id) lines) no_line
 abbrev pub has_line : LineMap → ObjectId → Bool
 has_line lines id = is_some (lookup (id_eq id) lines)
 
--- each of the assigned objects is known
+-- each of these objects has a line
 abbrev pub are_lined : LineMap → List Assigned → Bool
 are_lined lines assigned = list_all (λ (x : Assigned). has_line lines x.id) assigned
 
 -- ---- the version that an object has, before a transaction
 
--- what a shared input would be assigned, if nobody had named the object before
+-- what a shared input is assigned if its certificate is the first to name the object
 abbrev pub begun : List Object → (Input × Option Digest) → Option Assigned
 begun opening (inputs.Pure bytes, origin) = None
 begun opening (inputs.Owned r, origin) = None
@@ -46,7 +46,7 @@ abbrev pub standing_as : Assigned → Option Standing → Assigned
 standing_as x None = x
 standing_as x (Some s) = assigned_to s x.id x.mutable
 
--- the current version and its writer
+-- the assignment with the current version and its writer, if the object's line has them
 abbrev pub filled : LineMap → Assigned → Assigned
 filled lines x = standing_as x (line_at lines x.id).standing
 
@@ -71,7 +71,8 @@ greatest_of gas is assigned = fold greater_assigned (fold greater_named gas is) 
 abbrev pub one_more : ℕ → ℕ
 one_more n = if nat_lt n 4294967295 then n + 1 else n
 
--- an object that it writes stands at its version, and has one more writer; one that it reads stays
+-- the line of an object after an admitted transaction, by whether that writes it: it is at the transaction's version
+-- with one more writer, or at the version that was read
 abbrev pub moved : Bool → ℕ → Digest → Assigned → Line → Line
 moved true version tx x line = record { standing = Some (version, producers.Tx tx); writers = one_more line.writers }
 moved false version tx x line = record { standing = Some (x.version, x.writer); writers = line.writers }
@@ -93,7 +94,7 @@ clear_one lines x = insert_entry id_eq lines x.id (cleared (line_at lines x.id))
 abbrev pub clear_all : LineMap → List Assigned → LineMap
 clear_all lines assigned = fold clear_one lines assigned
 
--- ---- what a certificate's shared inputs would be assigned, one after the other
+-- ---- the loop of `begun` over a certificate's inputs
 
 abbrev pub pushed : List Assigned → Option Assigned → List Assigned
 pushed all None = all
@@ -103,13 +104,13 @@ abbrev pub with_origin : List Assigned → List (Option Digest) → (Option Dige
 with_origin all [] next = all
 with_origin all (o ∷ os) next = next o os
 
--- after these, what the inputs would be assigned
+-- the list so far, and after it `begun` of each input with its origin
 abbrev pub begun_after : List Object → List Assigned → List Input → List (Option Digest) → List Assigned
 begun_after opening all [] os = all
 begun_after opening all (i ∷ is) os =
     if is_object i then with_origin all os (λ o more. begun_after opening (pushed all (begun opening (i, o))) is more) else begun_after opening all is os
 
--- the origin of the gas coin comes first
+-- of a whole certificate: the first origin is that of the gas coin, and is passed over
 abbrev pub begun_behind : List Object → List Input → List (Option Digest) → List Assigned
 begun_behind opening is [] = []
 begun_behind opening is (o ∷ os) = begun_after opening [] is os

@@ -1,4 +1,4 @@
--- How the tables of an admission are kept, and those that say which certificates may be free.
+-- What holds of a register between two calls: its book is kept, and each certificate that waits is filed.
 use Rattle.version_assign.specs.declared.register.Register.{Register}
 use Rattle.version_assign.specs.Books.{IsKept}
 use Rattle.version_assign.specs.Waiting.{IsFiledIn}

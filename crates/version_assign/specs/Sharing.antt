@@ -23,7 +23,7 @@ lacks_any_shared opening c = list_any (lacks_shared opening) (joined_inputs c)
 abbrev pub IsServed : List Object → Admitted → Type 0
 IsServed opening x = lacks_any_shared opening x.cert ≡ false
 
--- what was admitted has its shared inputs; so it is before the first entry, and each step keeps it
+-- no admitted certificate lacks a shared input: so it is before the first entry, and each step keeps it so
 abbrev pub HasShared : List Object → Admission → Type 0
 HasShared opening a = Each (IsServed opening) a.admitted
 
@@ -32,18 +32,19 @@ abbrev pub if_shared : Option Object → Option Object
 if_shared None = None
 if_shared (Some o) = if is_shared o.owner then Some o else None
 
--- these are the objects that are shared in the opening, as far as a look-up says
+-- looking up an id among `kept` gives the opening's object of that id if it is shared, else nothing
 abbrev pub KeepsShared : List Object → List Object → Type 0
 KeepsShared kept opening = (id : ObjectId) → opening_object kept id ≡ if_shared (opening_object opening id)
 
--- entries and marks change both alike
+-- admission over `kept` is admission over the opening: of each entry and of each mark
 pub record ServesAs (kept opening : List Object) : Type 0 where
   pub entered : (writers : Option ℕ) (a : Admission) (h : Held) → HasShared opening a
       → (entered writers kept a h ≡ entered writers opening a h) × HasShared opening (entered writers opening a h)
   pub passed : (writers : Option ℕ) (a : Admission) → HasShared opening a
       → (passed_mark writers kept a ≡ passed_mark writers opening a) × HasShared opening (passed_mark writers opening a)
 
--- each step changes both openings alike
+-- admission over the shared objects of an opening is admission over all of them: of each entry and mark, and of a
+-- whole sequence
 pub record Serve (opening : List Object) : Type 0 where
   pub entered : (writers : Option ℕ) (a : Admission) (h : Held) → HasShared opening a
       → (entered writers (shared_of opening) a h ≡ entered writers opening a h) × HasShared opening (entered writers opening a h)
@@ -54,6 +55,6 @@ pub record Serve (opening : List Object) : Type 0 where
   pub seen : (r : Rules) (epoch : ℕ) (entries : List (List ℕ))
       → (seen r (shared_of opening) epoch entries ≡ seen r opening epoch entries) × HasShared opening (seen r opening epoch entries).admission
 
--- of every opening whose objects have distinct ids
+-- it is so for every opening whose objects have distinct ids
 abbrev pub SharedServe : Type 0
 SharedServe = (opening : List Object) → repeats id_eq (map id_of opening) ≡ false → Serve opening

@@ -1,4 +1,4 @@
--- The steps of the tables.
+-- What each step of the code does to the tables of a book.
 use Rattle.std.specs.Prelude.{◌≡◌, ℕ, ◌≤◌, ◌<◌, ◌^◌, ◌+◌, ◌++◌, slice_set, drop, fold, if◌then◌else◌, length, Bool, true, false, List, [], ◌∷◌, map, Option, Some, None}
 use Rattle.std.specs.List.{list_any}
 use Rattle.std.specs.Vec.{vec_capacity, vec_len}
@@ -23,7 +23,7 @@ abbrev pub is_free_one : Admitting → Option Held → Bool
 is_free_one a None = false
 is_free_one a (Some h) = is_free a.writers a.admission h
 
--- the version at which it would write, none if it is dropped
+-- the version at which a certificate would write if it were admitted now; none if it is to be dropped
 abbrev pub judged : List (ObjectId × Object) → LineMap → Certificate → List Assigned → Option ℕ
 judged opening lines c begun =
     version_within (list_any (lacks_one opening) begun)
@@ -43,7 +43,7 @@ pub record TakesOut (old new : Book) (place : ℕ) (r : Row) : Type 0 where
   pub opening : new.opening.entries ≡ old.opening.entries
   pub writers : new.writers ≡ old.writers
 
--- the places are skipped at which no certificate waits
+-- `low` goes on over places at which no certificate waits; nothing else changes
 pub record Skips (old new : Book) : Type 0 where
   pub rows : new.rows ≡ old.rows
   pub waiting : new.waiting ≡ old.waiting
@@ -56,7 +56,7 @@ pub record Skips (old new : Book) : Type 0 where
   pub opening : new.opening ≡ old.opening
   pub writers : new.writers ≡ old.writers
 
--- one more is admitted
+-- a certificate is admitted at this version; its row was taken out before
 pub record Admits (old new : Book) (h : Held) (assigned : List Assigned) (version : ℕ) : Type 0 where
   pub rows : new.rows.items ≡ old.rows.items
   pub waiting : new.waiting ≡ old.waiting
@@ -70,7 +70,7 @@ pub record Admits (old new : Book) (h : Held) (assigned : List Assigned) (versio
   pub opening : new.opening.entries ≡ old.opening.entries
   pub writers : new.writers ≡ old.writers
 
--- one more is dropped
+-- a certificate is dropped; its row was taken out before
 pub record Drops (old new : Book) (h : Held) : Type 0 where
   pub rows : new.rows.items ≡ old.rows.items
   pub waiting : new.waiting ≡ old.waiting
@@ -85,14 +85,14 @@ pub record Drops (old new : Book) (h : Held) : Type 0 where
   pub opening : new.opening.entries ≡ old.opening.entries
   pub writers : new.writers ≡ old.writers
 
--- one or the other, by the version at which it would write
+-- a certificate is admitted at the version that `judged` gives, or dropped if it gives none
 abbrev pub Gives : Book → Book → Held → List Assigned → Option ℕ → Type 0
 Gives old new h begun None = Drops old new h
 Gives old new h begun (Some version) = Admits old new h (map (filled old.lines.entries) begun) version
 
 -- ---- marks
 
--- the writers of what these wrote are forgotten
+-- the lines with the writers of all that these were assigned set to 0
 abbrev pub clear_each : LineMap → List (Digest × Admit) → LineMap
 clear_each lines [] = lines
 clear_each lines (e ∷ es) = clear_each (clear_all lines e.1.assigned) es
@@ -101,7 +101,7 @@ abbrev pub clear_found : LineMap → Option (Digest × Admit) → LineMap
 clear_found lines None = lines
 clear_found lines (Some e) = clear_all lines e.1.assigned
 
--- the writers since the last mark are forgotten
+-- a mark: all that was admitted is before it now, and writers count from 0
 pub record Marks (old new : Book) : Type 0 where
   pub rows : new.rows ≡ old.rows
   pub waiting : new.waiting ≡ old.waiting
@@ -119,7 +119,7 @@ pub record Marks (old new : Book) : Type 0 where
 abbrev pub digest_in : (Digest × Admit) → Digest
 digest_in e = e.0
 
--- room was made, and places for these objects
+-- room was made, in the tables and for lines of new objects; nothing that a definition sees changes
 pub record MakesRoom (old new : Book) : Type 0 where
   pub rows : new.rows.items ≡ old.rows.items
   pub waiting : new.waiting ≡ old.waiting
@@ -136,7 +136,7 @@ pub record MakesRoom (old new : Book) : Type 0 where
   pub len : vec_len new.dropped ≡ vec_len old.dropped
   pub capacity : vec_capacity old.dropped ≤ vec_capacity new.dropped
 
--- there is room for one more row
+-- one more row can be added, and all that wait then can be taken, without more memory
 pub record HasRowRoom (b : Book) (assigned : List Assigned) : Type 0 where
   pub rows : vec_len b.rows < vec_capacity b.rows
   pub known : 0 < set_spare b.known
@@ -149,7 +149,7 @@ pub record IsRowOf (opening : List Object) (h : Held) (r : Row) : Type 0 where
   pub held : r.held ≡ h
   pub begins : r.assigned.items ≡ begun_behind opening h.cert.tx.inputs h.cert.origins
 
--- one more row
+-- the row was added at the end
 pub record AddsRow (old new : Book) (r : Row) : Type 0 where
   pub rows : new.rows.items ≡ old.rows.items ++ Some r ∷ []
   pub waiting : new.waiting ≡ old.waiting + 1

@@ -1,4 +1,5 @@
--- Which of the certificates that wait may be free, and what the others wait for.
+-- The wait lists of an admission: which waiting certificates are to be looked at, and under what the others are filed.
+-- A certificate is known by its place among the rows.
 use Rattle.std.specs.Prelude.{◌≡◌, ◌⊎◌, ◌<◌, ◌≤◌, ◌+◌, ℕ, Bool, true, false, ◌||◌, length, List, [], map, Option, Some, None}
 use Rattle.std.specs.List.{list_any}
 use Rattle.std.specs.Map.{lookup}
@@ -17,7 +18,7 @@ use Rattle.version_assign.specs.declared.book.Row.{Row}
 use Rattle.version_assign.specs.declared.waits.Waits.{Waits}
 use Rattle.version_assign.specs.Books.{admission_of, admitted_as, row_at}
 
--- ---- places under names
+-- ---- shelves: sets of places under names (transactions, or objects)
 
 abbrev pub Shelf : Type 0
 Shelf = List (Digest × BTreeSet ℕ)
@@ -69,32 +70,32 @@ writes_row (Some r) id = has_id (mutable_ids r.held.cert) id
 abbrev pub writes_at : List (Option Row) → ℕ → ObjectId → Bool
 writes_at rows place id = writes_row (row_at rows place) id
 
--- one of these objects, or open before
+-- `due` with these objects too
 abbrev pub or_one_of : List ObjectId → (ObjectId → Bool) → ObjectId → Bool
 or_one_of ids due id = has_id ids id || due id
 
 abbrev pub none_open : ObjectId → Bool
 none_open id = false
 
--- An object in whose queue a place stands has its writers; or one that comes no later may be free, and writes it; or
--- its queue is still to be opened.
+-- why a place may wait in the queue of an object: the object has as many writers as the limit; or an awake place, no
+-- later than this one, writes it; or its queue is still to be opened (`due`)
 pub data Turn (rows : List (Option Row)) (w : Waits) (room due : ObjectId → Bool) (id : ObjectId) (place : ℕ) : Type 0 where
   is_full : room id ≡ false → Turn rows w room due id place
   is_open : due id ≡ true → Turn rows w room due id place
   has_turn : (p : ℕ) → is_awake w p ≡ true → p ≤ place → writes_at rows p id ≡ true → Turn rows w room due id place
 
--- A certificate that waits may be free; or it stands under an origin that is not admitted; or in the queue of an
--- object that it writes.
+-- where a waiting certificate is filed: among those that may be free (awake), under an origin that is not admitted, or
+-- in the queue of an object that it writes, with a reason to be there
 pub data Reason (rows : List (Option Row)) (w : Waits) (admits : Digest → Bool) (room due : ObjectId → Bool) (place : ℕ) (c : Certificate) : Type 0 where
   may_be_free : is_awake w place ≡ true → Reason rows w admits room due place c
   stands_behind : (tx : Digest) → Has c.origins (Some tx) → admits tx ≡ false → is_under w.behind.entries tx place ≡ true → Reason rows w admits room due place c
   is_queued : (id : ObjectId) → has_id (mutable_ids c) id ≡ true → is_under w.queues.entries id.0 place ≡ true → Turn rows w room due id place → Reason rows w admits room due place c
 
--- so does each one that waits, if the tables are whole
+-- every waiting certificate is filed, if no table was refused memory (`whole`)
 pub record IsFiled (rows : List (Option Row)) (w : Waits) (admits : Digest → Bool) (room due : ObjectId → Bool) : Type 0 where
   pub at : w.whole ≡ true → (place : ℕ) (r : Row) → row_at rows place ≡ Some r → Reason rows w admits room due place r.held.cert
 
--- by what the book has of transactions and of objects
+-- the tests of `IsFiled` as a book answers them: whether a transaction is admitted, and whether an object has room
 abbrev pub admits_in : Book → Digest → Bool
 admits_in b tx = is_admitted (admission_of b).admitted tx
 
@@ -106,14 +107,14 @@ IsFiledIn b w = IsFiled b.rows.items w (admits_in b) (room_in b) none_open
 
 -- ---- steps
 
--- what stands somewhere stays there, and more may come
+-- nothing is taken out of a list; places may be added
 pub record Grows (old new : Waits) : Type 0 where
   pub whole : new.whole ≡ true → old.whole ≡ true
   pub awake : (p : ℕ) → is_awake old p ≡ true → is_awake new p ≡ true
   pub behind : KeepsShelf old.behind.entries new.behind.entries
   pub queues : KeepsShelf old.queues.entries new.queues.entries
 
--- all that stand under a transaction may be free
+-- all places under a transaction were moved to those that may be free
 pub record Frees (old new : Waits) (tx : Digest) : Type 0 where
   pub whole : new.whole ≡ true → old.whole ≡ true
   pub awake : (p : ℕ) → is_awake old p ≡ true → is_awake new p ≡ true
@@ -121,7 +122,7 @@ pub record Frees (old new : Waits) (tx : Digest) : Type 0 where
   pub freed : new.whole ≡ true → (q : ℕ) → is_under old.behind.entries tx q ≡ true → is_awake new q ≡ true
   pub queues : KeepsShelf old.queues.entries new.queues.entries
 
--- the first in the queue of an object, which waits and writes it, may be free
+-- some place up to q is awake and writes the object
 pub record HasNext (rows : List (Option Row)) (w : Waits) (id : ObjectId) (q : ℕ) : Type 0 where
   pub place : ℕ
   pub awake : is_awake w place ≡ true
@@ -136,45 +137,46 @@ pub record TurnsOn (rows : List (Option Row)) (old new : Waits) (id : ObjectId) 
       → (is_under new.queues.entries name q ≡ true) ⊎ ((id.0 ≡ name) × (writes_at rows q id ≡ true → is_awake new q ≡ true))
   pub next : new.whole ≡ true → (q : ℕ) → is_under new.queues.entries id.0 q ≡ true → HasNext rows new id q
 
--- those that were passed no longer wait, or do not write the object
+-- loop: only places that no longer wait, or do not write the object, were taken out of its queue
 pub record Passes (rows : List (Option Row)) (old new : Waits) (id : ObjectId) : Type 0 where
   pub whole : new.whole ≡ true → old.whole ≡ true
   pub awake : (p : ℕ) → is_awake old p ≡ true → is_awake new p ≡ true
   pub behind : KeepsShelf old.behind.entries new.behind.entries
   pub queues : (name : Digest) (q : ℕ) → is_under old.queues.entries name q ≡ true → (is_under new.queues.entries name q ≡ true) ⊎ ((id.0 ≡ name) × (writes_at rows q id ≡ false))
 
--- a certificate that was filed while the queues of these objects were to be opened is filed
+-- opening the queues of some of the objects: if every certificate was filed with the queues of `all` still to be
+-- opened, it is filed now with only those of `rest` still to be opened
 pub record Opens (rows : List (Option Row)) (room : ObjectId → Bool) (old new : Waits) (all rest : List ObjectId) : Type 0 where
   pub at : (admits : Digest → Bool) (due : ObjectId → Bool) → IsFiled rows old admits room (or_one_of all due) → IsFiled rows new admits room (or_one_of rest due)
 
--- likewise for those that these admitted transactions write
+-- the object is written by one of these admitted transactions
 abbrev pub wrote_one : List (Digest × Admit) → ObjectId → Bool
 wrote_one entries id = list_any (writes id) (map admitted_as entries)
 
 pub record OpensSince (rows : List (Option Row)) (room : ObjectId → Bool) (old new : Waits) (all rest : List (Digest × Admit)) : Type 0 where
   pub at : (admits : Digest → Bool) → IsFiled rows old admits room (wrote_one all) → IsFiled rows new admits room (wrote_one rest)
 
--- each place from one on and below another may be free
+-- each place in this range is awake, if the tables are whole
 pub record AreAwake (from to : ℕ) (w : Waits) : Type 0 where
   pub at : w.whole ≡ true → (q : ℕ) → from ≤ q → q < to → is_awake w q ≡ true
 
--- the queues of what one of them writes are open
+-- the queues of all that this admitted transaction writes were opened, if there is one
 abbrev pub OpensFound : List (Option Row) → (ObjectId → Bool) → Waits → Waits → Option (Digest × Admit) → Type 0
 OpensFound rows room old new None = new ≡ old
 OpensFound rows room old new (Some e) = Opens rows room old new (mutable_ids e.1.cert) []
 
--- it stands under an origin, or in the queue of an object that has its writers
+-- the certificate at this place was put aside: under an origin that is not admitted, or in the queue of a full object
 pub data Aside (w : Waits) (admits : Digest → Bool) (room : ObjectId → Bool) (place : ℕ) (c : Certificate) : Type 0 where
   aside_behind : (tx : Digest) → Has c.origins (Some tx) → admits tx ≡ false → is_under w.behind.entries tx place ≡ true → Aside w admits room place c
   aside_queued : (id : ObjectId) → has_id (mutable_ids c) id ≡ true → is_under w.queues.entries id.0 place ≡ true → room id ≡ false → Aside w admits room place c
 
--- a place is no longer among those that may be free
+-- the place was taken out of those that may be free; nothing else was
 pub record Rests (old new : Waits) (place : ℕ) : Type 0 where
   pub whole : new.whole ≡ true → old.whole ≡ true
   pub awake : (p : ℕ) → is_awake old p ≡ true → (p ≡ place) ⊎ (is_awake new p ≡ true)
   pub behind : KeepsShelf old.behind.entries new.behind.entries
   pub queues : KeepsShelf old.queues.entries new.queues.entries
 
--- and this transaction
+-- the test of admitted transactions that passes one more
 abbrev pub admits_also : (Digest → Bool) → Digest → Digest → Bool
 admits_also admits one tx = admits tx || digest_eq one tx

@@ -1,4 +1,4 @@
-//! The admission, and what it answers.
+//! The admission of an epoch's certificates: the public calls, over the tables of a [`Register`].
 
 ghost use Rattle.std.specs.Prelude.{◌≡◌, ℕ, ◌<◌, ◌^◌, [], Some, IfOk, OnErr, OnOk, None, false, length, map, option_map, slice_get};
 ghost use Rattle.protocol_spec.specs.Chain.Words.{Each, repeats};

@@ -1,4 +1,4 @@
-//! What is asked of the tables.
+//! Look-ups in the tables of an admission.
 
 ghost use Rattle.std.specs.Prelude.{◌≡◌, Some, None, option_map, position, slice_get};
 ghost use Rattle.chain_types.specs.Equal.{digest_eq};
@@ -68,7 +68,7 @@ impl Book {
         }
     }
 
-    /// The first object that is full, if all origins are admitted.
+    /// The first object that a certificate writes and that is full, if all its origins are admitted.
     fn full_behind(&self, held: &Candidate) -> Option<ObjectId>
         requires { IsKept self.now }
         ensures { result ≡ deferred_by self.now.writers (admission_of self.now) (Some held.now) }

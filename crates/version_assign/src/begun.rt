@@ -1,4 +1,4 @@
-//! What the shared inputs of a certificate would be assigned, if nobody had named the objects before.
+//! What the shared inputs of a certificate are assigned if it is the first to name their objects.
 
 ghost use Rattle.std.specs.Prelude.{◌≡◌, ◌++◌, ◌∷◌, [], IfOk, Some, None, map};
 ghost use Rattle.chain_types.specs.Digests.{is_object};
@@ -40,7 +40,7 @@ fn begins(
     }
 }
 
-/// What a shared input would be assigned, if nobody had named the object before.
+/// What a shared input is assigned if its certificate is the first to name the object.
 fn begun(
     opening: &IndexMap<ObjectId, Object>,
     input: &Input,
@@ -67,7 +67,7 @@ fn begun(
     }
 }
 
-/// Likewise for these inputs, after those that are collected.
+/// Adds what the shared ones of these inputs are assigned, each with its origin, to those collected.
 fn begun_after(
     opening: &IndexMap<ObjectId, Object>,
     all: Vec<Assigned>,
@@ -95,7 +95,7 @@ fn begun_after(
     Ok(all)
 }
 
-/// What the shared inputs of a certificate would be assigned, if nobody had named the objects before.
+/// What the shared inputs of a certificate are assigned, in input order, if it is the first to name their objects.
 pub(crate) fn all_begun(
     alloc: Global,
     opening: &IndexMap<ObjectId, Object>,

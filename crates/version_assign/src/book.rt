@@ -36,7 +36,8 @@ pub(crate) struct Admit {
     pub(crate) assigned: Seq<Assigned>,
 }
 
-/// The tables.
+/// The tables of an admission: certificates in order of arrival, admitted and dropped ones, and a line for each shared
+/// object that one of them named.
 #[derive(Drop)]
 pub(crate) struct Book {
     /// In order of arrival; none if the certificate was admitted or dropped.
@@ -103,7 +104,8 @@ pub(crate) fn push_in_room(all: &mut Vec<Digest>, tx: Digest)
     }
 }
 
-/// Whether this would begin in the opening, and is not a shared object of it.
+/// Whether an assignment begins in the epoch's opening, which has no such shared object: then the certificate is
+/// dropped.
 fn lacks_one(opening: &IndexMap<ObjectId, Object>, one: &Assigned) -> bool
     ensures { result ≡ lacks_one opening.now.entries one.now }
 {
@@ -135,7 +137,7 @@ fn greatest_assigned(greatest: u64, assigned: &[Assigned]) -> u64
     greatest
 }
 
-/// The version after this one, if it stays below the limit and nothing is missing.
+/// The version after `greatest`; none if it would be 2^62 or more, or an object is missing (`lacks`).
 fn version_within(lacks: bool, greatest: u64) -> Option<u64>
     ensures { result ≡ version_within lacks greatest }
 {
@@ -197,7 +199,7 @@ impl Book {
         None
     }
 
-    /// Whether the certificate is free.
+    /// Whether a waiting certificate is free: its origins are admitted, and what it writes has room for a writer.
     fn is_free(&self, held: &Candidate) -> bool
         requires { IsKept self.now }
         ensures { result ≡ is_free self.now.writers (admission_of self.now) held.now }
@@ -251,7 +253,8 @@ impl Book {
         self.low = self.skipped();
     }
 
-    /// Puts the current versions into a row; the version at which it would write, none if it is dropped.
+    /// Puts the current versions into a row's assignments, and answers the version at which its transaction writes;
+    /// none if it is to be dropped.
     fn judge(&self, row: &mut Row) -> Option<u64>
         ensures held { row.new.held ≡ row.old.held }
         ensures filled { row.new.assigned.items ≡ map (filled self.now.lines.entries) row.old.assigned.items }
@@ -287,7 +290,7 @@ impl Book {
         push_in_room(&mut self.dropped, *row.held.digest());
     }
 
-    /// Admits or drops a certificate that was taken out.
+    /// Judges a row that was taken out, and admits or drops its certificate.
     pub(crate) fn give(&mut self, row: Row)
         requires admitted { 0 < spare self.old.admitted }
         requires dropped { vec_len self.old.dropped < vec_capacity self.old.dropped }

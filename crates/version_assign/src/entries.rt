@@ -1,4 +1,4 @@
-//! Entries and marks: what can be refused memory comes first, and then what cannot.
+//! Entries and marks on the tables. Whatever can be refused memory comes first; after it nothing is refused.
 
 ghost use Rattle.std.specs.Prelude.{◌≡◌, ◌+◌, ◌-◌, ◌<◌, ◌≤◌, ◌^◌, ◌++◌, ◌∷◌, [], IfOk, OnErr, OnOk, Some, None, false, drop, length, map, option_map, slice_get};
 ghost use Rattle.std.specs.List.{list_any};
@@ -38,7 +38,7 @@ fn note_digest(known: &mut IndexSet<Digest>, tx: Digest)
     }
 }
 
-/// Puts a row after the others; there is room.
+/// Appends a row to a list that has room for it.
 fn push_row(rows: &mut Vec<Option<Row>>, row: Row)
     requires { vec_len rows.old < vec_capacity rows.old }
     ensures { rows.new.items ≡ rows.old.items ++ Some row ∷ [] }
@@ -111,7 +111,7 @@ fn list_dropped(list: Vec<Digest>, dropped: &[Digest], from: usize) -> Vec<Diges
 }
 
 impl Book {
-    /// The row of a certificate.
+    /// Makes the row of a certificate, with its assignments as if it were the first to name its objects.
     pub(crate) fn row_of(
         &self,
         alloc: Global,
@@ -141,7 +141,7 @@ impl Book {
         make_lines(&mut self.lines, assigned)
     }
 
-    /// One more row; there is room.
+    /// Adds a row for which [`Book::make_room`] made room.
     pub(crate) fn add_row(&mut self, row: Row)
         requires room { HasRowRoom self.old row.assigned.items }
         requires new { list_any (λ d. digest_eq row.held.digest d) self.old.known.keys ≡ false }

@@ -63,7 +63,8 @@ fn greatest_named(greatest: u64, inputs: &[Input]) -> u64
     greatest
 }
 
-/// A certificate in the sequence, with what is looked at of it. Contracts see the certificate.
+/// What an admission keeps of a certificate: its origins, the shared objects that it writes, and the greatest version
+/// that it names. Contracts see the whole certificate.
 #[derive(Drop)]
 pub(crate) struct Excerpt {
     cert: SharedCertificate,
@@ -85,7 +86,7 @@ impl Model for Excerpt {
 }
 
 impl Excerpt {
-    /// Of this certificate.
+    /// The excerpt of this certificate.
     fn of(alloc: Global, cert: &SharedCertificate) -> Result<Excerpt, OutOfMemory>
         ensures { IfOk result (λ e. e ≡ cert.now) }
     {
@@ -121,7 +122,8 @@ impl Excerpt {
     }
 }
 
-/// The same, with the transaction's digest, of a certificate that waits. Contracts see both.
+/// The excerpt of a certificate that waits, with its transaction's digest. Contracts see the certificate and the
+/// digest.
 #[derive(Drop)]
 pub(crate) struct Candidate {
     digest: Digest,
@@ -137,7 +139,7 @@ impl Model for Candidate {
 }
 
 impl Candidate {
-    /// Of the certificate of the transaction of this digest.
+    /// The candidate of this certificate, whose transaction has this digest.
     pub(crate) fn of(
         alloc: Global,
         tx: &Digest,

@@ -71,7 +71,7 @@ pub(crate) fn make_lines(
     Ok(())
 }
 
-/// Puts what is known of an object that has a place.
+/// Replaces the line of an object that has one.
 fn set_line(lines: &mut IndexMap<ObjectId, Line>, id: ObjectId, line: Line)
     requires { has_line lines.old.entries id ≡ true }
     ensures { lines.new.entries ≡ insert_entry id_eq lines.old.entries id line }
@@ -82,7 +82,7 @@ fn set_line(lines: &mut IndexMap<ObjectId, Line>, id: ObjectId, line: Line)
     }
 }
 
-/// One more, up to the greatest number.
+/// One more writer; at 2^32 - 1 the count stays.
 fn one_more(writers: u32) -> u32
     ensures { result ≡ one_more writers }
 {

@@ -1,5 +1,5 @@
-//! The tables of an admission, with those that say which certificates may be free. What can be refused memory comes first, and then
-//! what cannot.
+//! The tables of an admission with its wait lists. In each call whatever can be refused memory comes first; after it
+//! nothing is refused.
 
 ghost use Rattle.std.specs.Prelude.{◌≡◌, ◌+◌, ◌≤◌, [], IfOk, OnErr, OnOk, Some, None, false, length, true};
 ghost use Rattle.std.specs.Vec.{vec_capacity};
@@ -20,7 +20,7 @@ use protocol_spec::SharedCertificate;
 use std::alloc::Global;
 use wire_bcs::OutOfMemory;
 
-/// The tables.
+/// The tables of an admission, and the wait lists that find the certificates that may be free.
 #[derive(Drop)]
 pub(crate) struct Register {
     pub(crate) book: Book,
@@ -51,7 +51,7 @@ impl Register {
         }
     }
 
-    /// Likewise; after it, the places at which nothing waits are skipped.
+    /// [`Register::settle`], and then skips the places at the start at which nothing waits any more.
     fn settle_all(&mut self)
         requires { IsWhole self.old }
         ensures kept { IsWhole self.new }
@@ -77,7 +77,7 @@ impl Register {
         self.book.list_taken(admitted, dropped, from, from_dropped)
     }
 
-    /// One more row, for which there is room, and which may be free.
+    /// Adds a row, for which there is room, and files it among those that may be free.
     fn add_row(&mut self, row: Row)
         requires kept { IsWhole self.old }
         requires room { HasRowRoom self.old.book row.assigned.items }
@@ -97,7 +97,7 @@ impl Register {
         self.waits.wake(place);
     }
 
-    /// A certificate's entry, for which there is room.
+    /// Takes the entry of a certificate, for which there is room, and all that is free then.
     fn enter(&mut self, row: Row, admitted: Vec<Digest>, dropped: Vec<Digest>) -> Taken
         requires kept { IsWhole self.old }
         requires room { HasRowRoom self.old.book row.assigned.items }
@@ -116,7 +116,8 @@ impl Register {
         self.settle_listed(admitted, dropped)
     }
 
-    /// A certificate's entry. A refusal changes nothing.
+    /// Takes the entry of a certificate: it is admitted, dropped or waits, and so are those that waited for it. A
+    /// refusal changes nothing.
     pub(crate) fn push(
         &mut self,
         alloc: Global,
@@ -140,7 +141,7 @@ impl Register {
         Ok(self.enter(row, admitted, dropped))
     }
 
-    /// What was admitted is in a checkpoint, and no longer counts for the limit of writers: whatever waited for that may be
+    /// Cuts what was admitted: it no longer counts for the limit of writers, so the first in each of its queues may be
     /// free.
     pub(crate) fn cut(&mut self)
         requires { IsWhole self.old }
@@ -153,7 +154,8 @@ impl Register {
         self.waits.open_since(&self.book, from);
     }
 
-    /// A mark, after its cut. A refusal changes nothing.
+    /// Takes a Commit mark, after its cut: writers count anew, and what is free then is taken. A refusal changes
+    /// nothing.
     pub(crate) fn mark(&mut self, alloc: Global) -> Result<Taken, OutOfMemory>
         requires { IsWhole self.old }
         ensures kept { IsWhole self.new }

@@ -16,7 +16,7 @@ use std::alloc::Global;
 use wire_bcs::OutOfMemory;
 
 impl Book {
-    /// Leaves the opening and the limit, and nothing else.
+    /// Empties all tables but the opening and the limit of writers: the epoch before its first entry.
     pub(crate) fn clear(&mut self, alloc: Global)
         requires { IsKept self.old }
         ensures kept { IsKept self.new }
@@ -35,7 +35,8 @@ impl Book {
 }
 
 impl Book {
-    /// The opening of the next epoch, and nothing else. If memory is refused, some of what changed is as it was.
+    /// Empties the tables and applies these changes to the opening: the next epoch before its first entry. After a
+    /// refusal only some of the changes are applied.
     fn renew(&mut self, alloc: Global, changes: &[Change]) -> Result<(), OutOfMemory>
         requires kept { IsKept self.old }
         requires own { Each IsOwn changes.now }
@@ -53,7 +54,8 @@ impl Book {
 }
 
 impl Register {
-    /// The opening of the next epoch, and nothing else. If memory is refused, some of what changed is as it was.
+    /// Empties the tables and applies these changes to the opening: the next epoch before its first entry. After a
+    /// refusal only some of the changes are applied.
     #[tactic(auto, using(crate::proofs::Registering::nothing_filed))]
     pub(crate) fn renew(&mut self, alloc: Global, changes: &[Change]) -> Result<(), OutOfMemory>
         requires kept { IsWhole self.old }
@@ -66,7 +68,7 @@ impl Register {
         self.book.renew(alloc, changes)
     }
 
-    /// Leaves the opening and the limit, and nothing else.
+    /// Empties all tables but the opening and the limit of writers: the epoch before its first entry.
     #[tactic(auto, using(crate::proofs::Registering::nothing_filed))]
     pub(crate) fn clear(&mut self, alloc: Global)
         requires { IsWhole self.old }

@@ -1,4 +1,4 @@
-//! Which of the certificates that wait may be free, so that the others are not looked at.
+//! The wait lists of an admission: which waiting certificates may be free, so that the others are not looked at.
 
 ghost use Rattle.std.specs.Prelude.{◌≡◌, ◌≤◌, ℕ, Bool, IfSome, [], ◌∷◌, Option, Some, None, true, false, drop, find, slice_get};
 ghost use Rattle.std.specs.Ordering.{nat_cmp};
@@ -20,13 +20,14 @@ use indexmap::IndexMap;
 use std::alloc::Global;
 use std::collections::BTreeSet;
 
-/// Each certificate that waits may be free, or stands under an origin that is not admitted, or in the queue of an
-/// object that it writes and that is full: it has as many writers as the limit. If an object has room for one more writer, the first of its
-/// queue goes to those that may be free, and takes the next with it. A place may stand somewhere longer than its
-/// certificate waits.
+/// Where each waiting certificate is filed, by its place among the rows: among those that may be free; under an origin
+/// that is not admitted; or in the queue of an object that it writes and that is full, with as many writers as the
+/// limit. When an object has room for one more writer, the first of its queue goes to those that may be free; when
+/// that one is taken or put aside, the next follows. A place may be filed longer than its certificate waits.
 #[derive(Drop)]
 pub(crate) struct Waits {
-    /// Not so while memory is refused to a table: then each certificate that waits is looked at.
+    /// False once a list was refused memory, until [`Waits::mend`]: then the lists are not complete, and each
+    /// certificate that waits is looked at.
     pub(crate) whole: bool,
     /// The places of those that may be free.
     pub(crate) awake: BTreeSet<usize>,
@@ -67,7 +68,7 @@ fn writes_at(rows: &[Option<Row>], place: usize, id: &ObjectId) -> bool
 }
 
 impl Waits {
-    /// Nothing waits. Takes no memory.
+    /// Empty lists. Takes no memory.
     pub(crate) fn new(alloc: Global) -> Waits {
         Waits {
             whole: true,
@@ -78,7 +79,7 @@ impl Waits {
         }
     }
 
-    /// The certificate at a place may be free.
+    /// Puts a place among those that may be free.
     pub(crate) fn wake(&mut self, place: usize)
         ensures kept { Grows self.old self.new }
         ensures queues { self.new.queues ≡ self.old.queues }
@@ -90,7 +91,8 @@ impl Waits {
         }
     }
 
-    /// If memory was refused, each certificate that waits may be free, and the tables are whole again.
+    /// If memory was refused before, puts every place from the first waiting one on among those that may be free: then
+    /// the lists are complete again, unless memory is refused now too.
     pub(crate) fn mend(&mut self, book: &Book)
         requires { IsSkipped book.now.low book.now.rows.items }
         ensures { IsFiledIn book.now self.old → IsFiledIn book.now self.new }
@@ -104,7 +106,7 @@ impl Waits {
         }
     }
 
-    /// The certificate at a place stands under a transaction.
+    /// Files a place under a transaction.
     fn put_behind(&mut self, tx: Digest, place: usize)
         ensures kept { Grows self.old self.new }
         ensures behind { self.new.whole ≡ true → is_under self.new.behind.entries tx place ≡ true }
@@ -115,7 +117,7 @@ impl Waits {
         }
     }
 
-    /// The certificate at a place stands in the queue of an object.
+    /// Files a place in the queue of an object.
     fn put_in_queue(&mut self, id: ObjectId, place: usize)
         ensures kept { Grows self.old self.new }
         ensures queued { self.new.whole ≡ true → is_under self.new.queues.entries id.0 place ≡ true }
@@ -126,7 +128,7 @@ impl Waits {
         }
     }
 
-    /// The certificates at these places may be free.
+    /// Puts these places among those that may be free.
     fn wake_all(&mut self, places: BTreeSet<usize>)
         ensures kept { Grows self.old self.new }
         ensures awake { self.new.whole ≡ true → (q : ℕ) → contains nat_cmp places q ≡ true → is_awake self.new q ≡ true }
@@ -137,7 +139,7 @@ impl Waits {
         }
     }
 
-    /// Those that stand under a transaction may be free.
+    /// Moves all places under a transaction to those that may be free.
     fn wake_behind(&mut self, tx: &Digest)
         ensures { Frees self.old self.new tx.now }
     {
@@ -146,7 +148,8 @@ impl Waits {
         }
     }
 
-    /// The first in the queue of an object may be free. Those that no longer wait are passed over.
+    /// Moves the first place in the queue of an object to those that may be free. Places whose certificates no longer
+    /// wait, or do not write the object, are dropped on the way.
     fn wake_next(&mut self, rows: &[Option<Row>], id: &ObjectId)
         ensures { TurnsOn rows.now self.old self.new id.now }
     {
@@ -158,7 +161,7 @@ impl Waits {
         }
     }
 
-    /// The first in the queue of the object may be free, if the object has room.
+    /// [`Waits::wake_next`] for an object that has room for one more writer.
     fn open_one(&mut self, book: &Book, id: &ObjectId)
         requires { AreLines book.now.writers (opening_of book.now) (admission_of book.now) book.now.lines.entries }
         ensures { (rest : _) → Opens book.now.rows.items (room_in book.now) self.old self.new (id.now ∷ rest) rest }
@@ -168,7 +171,7 @@ impl Waits {
         }
     }
 
-    /// Likewise for each of these objects.
+    /// [`Waits::open_one`] for each of these objects.
     pub(crate) fn open_all(&mut self, book: &Book, ids: &[ObjectId])
         requires { AreLines book.now.writers (opening_of book.now) (admission_of book.now) book.now.lines.entries }
         ensures { Opens book.now.rows.items (room_in book.now) self.old self.new ids.now [] }
@@ -180,7 +183,7 @@ impl Waits {
         }
     }
 
-    /// The place is no longer among those that may be free.
+    /// Takes a place out of those that may be free.
     fn rest(&mut self, place: usize)
         ensures { Rests self.old self.new place }
     {
@@ -204,7 +207,8 @@ impl Waits {
         }
     }
 
-    /// Files the certificate at a place, which is not free; the next in the queues of what it writes may be free.
+    /// Files the certificate at a place, which is not free, and opens the queues of what it writes: so that the next
+    /// in them does not wait for this one.
     fn put_aside(&mut self, book: &Book, place: usize)
         requires kept { IsKept book.now }
         requires waits { is_free_one (shown book.now) (placed book.now.rows.items (Some place)) ≡ false }
@@ -245,8 +249,8 @@ impl Waits {
         book.first_free()
     }
 
-    /// The certificate at a place was taken out: whatever waits for its transaction may be free, and the next in the
-    /// queues of what it writes.
+    /// Notes that the certificate at a place was taken out: whatever waits for its transaction may be free, and so may
+    /// the next in the queue of each object that it writes.
     pub(crate) fn release(&mut self, book: &Book, place: usize, held: &Candidate)
         requires { AreLines book.now.writers (opening_of book.now) (admission_of book.now) book.now.lines.entries }
         ensures { (before : B) (row : _) → held.now ≡ row.held → TakesOut before book.now place row → IsFiledIn before self.old → IsFiled book.now.rows.items self.new (admits_also (admits_in book.now) held.now.digest) (room_in book.now) none_open }
@@ -256,8 +260,7 @@ impl Waits {
         self.open_all(book, held.writes());
     }
 
-    /// The first in the queue of each object that the admitted transaction at a place wrote may be free, if the
-    /// object has room.
+    /// [`Waits::open_all`] for the objects that the admitted transaction at a place writes.
     fn open_at(&mut self, book: &Book, place: usize)
         requires { AreLines book.now.writers (opening_of book.now) (admission_of book.now) book.now.lines.entries }
         ensures { OpensFound book.now.rows.items (room_in book.now) self.old self.new (slice_get book.now.admitted.entries place) }
@@ -267,7 +270,8 @@ impl Waits {
         }
     }
 
-    /// Likewise for each that was admitted from this place on.
+    /// [`Waits::open_at`] for each transaction admitted from this place on: after a mark, which counts their writers
+    /// anew.
     pub(crate) fn open_since(&mut self, book: &Book, from: usize)
         requires { AreLines book.now.writers (opening_of book.now) (admission_of book.now) book.now.lines.entries }
         ensures { OpensSince book.now.rows.items (room_in book.now) self.old self.new (drop from book.now.admitted.entries) [] }

@@ -95,7 +95,7 @@ module _ {turned : Bool} {entries : List (ObjectId × Object)} {opened_in : ℕ}
   known_before says key o found =
       sym (ap (option_map says) (version_is key ∙ ap (λ x. or_else (option_map opened x) (version_at behind key)) (sym found)))
 
-  -- and what from the maps
+  -- what of a version is known from the maps
   pub known_behind : {B : Type 0} → (says : Kept → B) (says_of : Version → B) → ((v : Version) → says (kept_of v) ≡ says_of v) → (key : ObjectKey) (o : Option Kept)
       → None ≡ at_version key.version (lookup (id_eq key.id) entries) → o ≡ lookup (key_eq key) maps.versions.entries → option_map says o ≡ option_map says_of (version_at (held_in s) key)
   known_behind says says_of same key o none found =

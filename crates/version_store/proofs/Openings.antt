@@ -49,7 +49,7 @@ module _ (s : Stored) where
       ∙ sym (found_under id rows)
       ∙ found_as (live_in s) (live_has s) ids (λ i none. live_none s i (newest_none i (held_in s) none)) id
 
-  -- and with one object of each id
+  -- an epoch opens with one object of each id
   pub single_live : IsSingle (live_list s.opening s.executed)
   single_live id =
       ap (λ os. newest id (map opened os)) (live_by_ids s)
@@ -57,7 +57,7 @@ module _ (s : Stored) where
       ∙ sym (object_found rows (owned (map (live_in s) ids)) id)
       ∙ sym (ap (λ os. opening_object os id) (live_by_ids s))
 
--- so does an epoch whose opening objects have distinct ids
+-- opening objects with distinct ids have one object of each id
 pub single_apart : (os : List Object) → repeats id_eq (map (λ (o : Object). o.id) os) ≡ false → IsSingle os
 single_apart [] once id = refl
 single_apart (o ∷ os) once id =

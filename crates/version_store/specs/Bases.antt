@@ -1,4 +1,4 @@
--- The opening objects that stand beside the maps of an epoch, under their ids.
+-- The base of a store: the objects with which the epoch opened, one version of each id, in a map from id to object.
 use Rattle.std.specs.Prelude.{◌≡◌, ℕ, Bool, ◌==◌, List, [], ◌∷◌, ◌++◌, map, fold, Option, Some, None, is_some, option_map, if◌then◌else◌}
 use Rattle.std.specs.Map.{lookup}
 use Rattle.chain_types.specs.declared.objects.Object.{Object}
@@ -18,11 +18,11 @@ object_under e = e.1
 unfoldable pub by_id : List (ObjectId × Object) → List Object
 by_id entries = map object_under (fold with_live [] (map (λ e. Some (object_under e)) entries))
 
--- in the first epoch they stand in the order of the set-up, and after a turn by ascending id
+-- the base as a list: in the order of insertion in epoch 0, that of the set-up, and by ascending id after a turn
 abbrev pub based : Bool → List (ObjectId × Object) → List Object
 based turned entries = if turned then by_id entries else map object_under entries
 
--- a store whose opening has these objects too
+-- the store with these objects before those of its opening
 abbrev pub over : List Object → Stored → Stored
 over objects s = record { opening = objects ++ s.opening; executed = s.executed }
 
@@ -34,12 +34,12 @@ abbrev pub at_version : ℕ → Option Object → Option Object
 at_version version None = None
 at_version version (Some o) = if o.version == version then Some o else None
 
--- the prefix of a list of objects, each under its id, up to the first whose id is there
+-- the map, and after it the objects of the list, each under its id, up to the first whose id the map has by then
 abbrev pub front_entries : List (ObjectId × Object) → List Object → List (ObjectId × Object)
 front_entries done [] = done
 front_entries done (o ∷ os) = if is_some (lookup (id_eq o.id) done) then done else front_entries (done ++ (o.id, o) ∷ []) os
 
--- the maps are kept, and a look-up under an id is one among the objects
+-- the maps are kept, and looking up an id, or a key, in the base gives what a search of its list gives
 pub record IsHeld (turned : Bool) (entries : List (ObjectId × Object)) (opened_in : ℕ) (maps : Maps) : Type 0 where
   pub kept : IsKept opened_in maps
   pub newest : (id : ObjectId) → newest id (map opened (based turned entries)) ≡ lookup (id_eq id) entries

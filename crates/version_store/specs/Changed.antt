@@ -1,4 +1,4 @@
--- What an epoch left as it opened. Source: Sui Lutris.
+-- Which ids an epoch changed. Source: Sui Lutris.
 use Rattle.std.specs.Prelude.{◌≡◌, false, List, map}
 use Rattle.std.specs.List.{list_any}
 use Rattle.chain_types.specs.declared.objects.Object.{Object}
@@ -8,10 +8,10 @@ use Rattle.protocol_spec.specs.Member.Admission.{opening_object}
 use Rattle.protocol_spec.specs.Member.Versions.{live, newest, opened}
 use Rattle.version_store.specs.Stores.{Stored}
 
--- of every other id the live object is that with which the epoch opened
+-- of every id that is not among these the live object is that with which the epoch opened
 abbrev pub AreChanged : Stored → List ObjectId → Type 0
 AreChanged s ids = (id : ObjectId) → list_any (id_eq id) ids ≡ false → live s.opening s.executed id ≡ newest id (map opened s.opening)
 
--- an opening has one object of each id at most, as far as a look-up says
+-- the newest object of an id in the opening is its only one: what holds if no two objects have one id
 abbrev pub IsSingle : List Object → Type 0
 IsSingle opening = (id : ObjectId) → newest id (map opened opening) ≡ opening_object opening id

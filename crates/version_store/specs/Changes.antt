@@ -37,7 +37,7 @@ pub record HasRoom (maps : Maps) (written consumed deleted : ℕ) : Type 0 where
   pub for_deleted : deleted ≤ set_spare maps.deleted
   pub for_execution : 1 ≤ spare maps.executed
 
--- the objects of a producer are held too
+-- these objects, which this producer made, were added to the versions and to the newest of their ids
 pub record Holds (old new : Maps) (producer : Producer) (objects : List Object) : Type 0 where
   pub versions : new.versions.entries ≡ with_versions producer old.versions.entries objects
   pub newest : new.newest.entries ≡ with_all_newer old.newest.entries objects
@@ -45,7 +45,7 @@ pub record Holds (old new : Maps) (producer : Producer) (objects : List Object) 
   pub consumers : new.consumers ≡ old.consumers
   pub deleted : new.deleted ≡ old.deleted
 
--- one more execution
+-- one execution was added: what it wrote, consumed and deleted, and its effects
 pub record Adds (old new : Maps) (effects : Effects) (objects : List Object) (consumed : List ObjectKey) : Type 0 where
   pub versions : new.versions.entries ≡ with_versions (producers.Tx effects.tx) old.versions.entries objects
   pub newest : new.newest.entries ≡ with_all_newer old.newest.entries objects
@@ -53,7 +53,7 @@ pub record Adds (old new : Maps) (effects : Effects) (objects : List Object) (co
   pub consumers : new.consumers.entries ≡ with_consumers effects.tx old.consumers.entries consumed
   pub executed : new.executed.entries ≡ insert_entry digest_eq old.executed.entries effects.tx (record { consumed = consumed; effects = effects; written = length objects })
 
--- only what the kept transactions did stays
+-- what the transactions that are not kept did was taken out of every map
 pub record Keeps (old new : Maps) (kept : List Digest) : Type 0 where
   pub versions : new.versions.entries ≡ filter (version_stays kept) old.versions.entries
   pub executed : new.executed.entries ≡ filter (ran_stays kept) old.executed.entries

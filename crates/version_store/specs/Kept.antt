@@ -31,7 +31,7 @@ abbrev pub executions : List (Digest × Ran) → List Object → List Execution
 executions [] objects = []
 executions (e ∷ es) objects = ran_as e.0 e.1 (take e.1.written objects) ∷ executions es (drop e.1.written objects)
 
--- the first objects are those with which the epoch opened
+-- the store that the maps stand for: of all objects the first `opened` are the opening, and the others were written
 abbrev pub stored_as : ℕ → List Object → List (Digest × Ran) → Stored
 stored_as opened objects ran = record { opening = take opened objects; executed = executions ran (drop opened objects) }
 

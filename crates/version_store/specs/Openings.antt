@@ -8,7 +8,7 @@ use Rattle.protocol_spec.specs.Member.Versions.{with_live}
 use Rattle.version_store.specs.declared.maps.Kept.{Kept}
 use Rattle.version_store.specs.Bases.{object_under}
 
--- the objects, each in the place of its id
+-- the entries with these objects, each under its id; of two with one id the last counts
 abbrev pub all_placed : List (ObjectId × Object) → List Object → List (ObjectId × Object)
 all_placed entries objects = fold with_live entries (map (λ (o : Object). Some o) objects)
 
@@ -16,7 +16,7 @@ all_placed entries objects = fold with_live entries (map (λ (o : Object). Some 
 abbrev pub ascending : List Object → List Object
 ascending objects = map object_under (all_placed [] objects)
 
--- one more version, if the epoch opened with it
+-- the objects by id, with this version added if the epoch opened with it
 abbrev pub with_opened : List (ObjectId × Object) → Producer → Object → List (ObjectId × Object)
 with_opened entries producers.Opening o = with_live entries (Some o)
 with_opened entries (producers.Tx by) o = entries

@@ -11,7 +11,7 @@ use Rattle.chain_types.specs.Equal.{id_eq, key_eq}
 use Rattle.protocol_spec.specs.Chain.Keys.{object_key}
 use Rattle.version_store.specs.declared.maps.Kept.{Kept}
 
--- a version goes under its key
+-- the versions with this object under its key
 abbrev pub with_version : Producer → List (ObjectKey × Kept) → Object → List (ObjectKey × Kept)
 with_version producer kept o = insert_entry key_eq kept (object_key o) (record { object = o; producer = producer })
 
@@ -29,7 +29,7 @@ with_newer live o = insert_entry id_eq live o.id (newer_of (lookup (id_eq o.id) 
 abbrev pub with_all_newer : List (ObjectId × Object) → List Object → List (ObjectId × Object)
 with_all_newer live objects = fold with_newer live objects
 
--- the first transaction that consumed a key stays
+-- the consumers with this transaction under the key, unless an earlier one is there
 abbrev pub with_consumer : Digest → List (ObjectKey × Digest) → ObjectKey → List (ObjectKey × Digest)
 with_consumer tx consumers key = if is_some (lookup (key_eq key) consumers) then consumers else insert_entry key_eq consumers key tx
 

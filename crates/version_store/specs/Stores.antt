@@ -21,7 +21,7 @@ held_in s = versions s.opening s.executed
 abbrev pub are_new : List Version → List Object → Bool
 are_new held objects = writes_new held (map object_key objects)
 
--- an execution, by its parts
+-- an execution from its effects, the objects that it wrote and the versions that it consumed
 abbrev pub executed_as : Effects → List Object → List ObjectKey → Execution
 executed_as effects objects consumed = record {
   digest = effects.tx;

@@ -1,4 +1,4 @@
-//! The opening objects that stand beside the maps: one version of each id.
+//! The base: the objects with which the epoch opened, one version of each id.
 
 ghost use Rattle.std.specs.Prelude.{◌≡◌, ◌≤◌, [], IfOk, None, drop, length, option_copied, if◌then◌else◌};
 ghost use Rattle.std.specs.List.{list_any};
@@ -32,7 +32,7 @@ pub(crate) fn front_of(
     Ok(front)
 }
 
-/// What stands after the first objects.
+/// The objects after the first `count`.
 #[tactic(auto, using(crate::proofs::Opened::slice_rest))]
 pub(crate) fn behind(objects: &[Object], count: usize) -> &[Object]
     requires { count ≤ length objects.now }

@@ -11,7 +11,7 @@ use indexmap::{IndexMap, IndexSet};
 use std::alloc::Global;
 use wire_bcs::{OutOfMemory, Seq};
 
-/// The ids under which something stands.
+/// The keys of a map from id to object.
 fn ids_of(
     alloc: Global,
     newest: &IndexMap<ObjectId, HashedObject>,
@@ -21,7 +21,7 @@ fn ids_of(
     Ok(newest.keys().copied().collect(alloc)?)
 }
 
-/// Puts these ids after the others.
+/// Appends these ids to the list.
 fn add_each(ids: &mut Vec<ObjectId>, more: &IndexSet<ObjectId>) -> Result<(), OutOfMemory>
     ensures { OnOk result (ids.new.items ≡ ids.old.items ++ more.now.keys) }
 {

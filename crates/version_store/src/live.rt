@@ -15,7 +15,7 @@ use std::alloc::Global;
 use std::collections::BTreeMap;
 use wire_bcs::{OutOfMemory, Seq};
 
-/// Puts a live object into its place.
+/// Adds a live object, if there is one, to the map by id.
 fn add_live(
     live: &mut BTreeMap<ObjectId, Object>,
     object: Option<Object>,
@@ -28,7 +28,7 @@ fn add_live(
     Ok(())
 }
 
-/// Puts the live objects with these ids into their places.
+/// Adds the live objects of the ids of the base.
 fn add_live_under(
     live: &mut BTreeMap<ObjectId, Object>,
     store: &Store,
@@ -42,7 +42,7 @@ fn add_live_under(
     Ok(())
 }
 
-/// Puts the live objects with the ids of these versions into their places.
+/// Adds the live objects of the ids of these versions.
 fn add_live_among(
     live: &mut BTreeMap<ObjectId, Object>,
     store: &Store,
@@ -56,7 +56,7 @@ fn add_live_among(
     Ok(())
 }
 
-/// Puts the objects of the base into their places.
+/// Adds the objects of the base.
 fn add_base(
     opened: &mut BTreeMap<ObjectId, Object>,
     base: &IndexMap<ObjectId, HashedObject>,
@@ -69,7 +69,7 @@ fn add_base(
     Ok(())
 }
 
-/// Puts a version into its place, if the epoch opened with it.
+/// Adds a version, if the epoch opened with it.
 fn add_opened(opened: &mut BTreeMap<ObjectId, Object>, kept: &Kept) -> Result<(), OutOfMemory>
     ensures { OnOk result (opened.new.entries ≡ with_opened opened.old.entries kept.now.producer kept.now.object) }
 {
@@ -79,7 +79,7 @@ fn add_opened(opened: &mut BTreeMap<ObjectId, Object>, kept: &Kept) -> Result<()
     }
 }
 
-/// Puts the versions with which the epoch opened into their places.
+/// Adds the versions with which the epoch opened.
 fn add_opened_among(
     opened: &mut BTreeMap<ObjectId, Object>,
     versions: &IndexMap<ObjectKey, Kept>,

@@ -25,7 +25,8 @@ pub(crate) struct Kept {
     pub(crate) producer: Producer,
 }
 
-/// What is kept of an executed transaction: the objects that it wrote are among the versions.
+/// An executed transaction: the versions that it consumed, its effects, and how many objects it wrote. The objects are
+/// in `Maps::versions`, in the order of execution.
 #[derive(Debug, Drop)]
 pub(crate) struct Ran {
     pub(crate) consumed: Seq<ObjectKey>,
@@ -33,7 +34,7 @@ pub(crate) struct Ran {
     pub(crate) written: usize,
 }
 
-/// The maps.
+/// What an epoch did, in maps: versions, executions, consumers, the newest version of each id, deleted ids.
 #[derive(Drop)]
 pub(crate) struct Maps {
     /// The opening objects that the base lacks, and then what each executed transaction wrote.
@@ -58,7 +59,7 @@ fn put<K: Eq + Hash + Drop, V: Drop>(map: &mut IndexMap<K, V>, key: K, value: V)
     }
 }
 
-/// Puts a value in the place of the one that stands under a key.
+/// Replaces the value under a key that is there.
 fn put_back<K: Eq + Hash + Drop, V: Drop>(map: &mut IndexMap<K, V>, key: &K, value: V)
     requires { is_some (lookup (K.eq key.now) map.old.entries) ≡ true }
     ensures entries { map.new.entries ≡ set_value (K.eq key.now) map.old.entries value }
@@ -208,7 +209,7 @@ impl Maps {
         Ok(())
     }
 
-    /// Holds the objects of a producer; there is room.
+    /// Adds the objects that this producer made; there is room.
     pub(crate) fn hold(&mut self, objects: &[HashedObject], producer: Producer)
         requires { (length objects.now ≤ spare self.old.versions) × (length objects.now ≤ spare self.old.newest) }
         ensures { Holds self.old self.new producer objects.now }

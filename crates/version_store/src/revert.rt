@@ -132,7 +132,7 @@ fn keep_executed(executed: &mut IndexMap<Digest, Ran>, kept: &IndexSet<Digest>)
 }
 
 impl Maps {
-    /// Takes out what the transactions did that are not kept. A refusal changes nothing.
+    /// Takes out of every map what the transactions that are not kept did. A refusal changes nothing.
     fn keep(&mut self, alloc: Global, kept: &IndexSet<Digest>) -> Result<(), OutOfMemory>
         ensures ok { OnOk result (Keeps self.old self.new kept.now.keys) }
         ensures err { OnErr result (self.new ≡ self.old) }

@@ -1,4 +1,4 @@
-//! The store, and what it answers.
+//! The store of an epoch's versions and executions.
 
 ghost use Rattle.std.specs.Prelude.{◌≡◌, [], IfOk, OnErr, OnOk, false, true, is_some, option_copied, option_map};
 ghost use Rattle.effects_core.specs.Effects.{digest_of_effects};
@@ -96,7 +96,7 @@ impl Store {
         }
     }
 
-    /// Likewise, with the object's digest.
+    /// [`Store::get`] with the object's digest, which was taken when the object was written. Takes no memory.
     pub fn hashed(&self, key: &ObjectKey) -> Option<&HashedObject>
         ensures { option_copied result ≡ option_map object_in (version_at (held_in self.now) key.now) }
     {
@@ -139,7 +139,7 @@ impl Store {
         }
     }
 
-    /// Likewise, with the object's digest.
+    /// [`Store::live`] with the object's digest. Takes no memory.
     #[tactic(auto, unfolding(protocol_spec::specs::Member::Versions::live))]
     fn live_hashed(&self, id: &ObjectId) -> Option<&HashedObject>
         ensures { option_copied result ≡ live self.now.opening self.now.executed id.now }

@@ -17,7 +17,7 @@ use Rattle.vote_desk.specs.Votes.{Accepts, Follows, FollowsUnder, Replies, stand
 -- ---- by the seals that are accepted
 
 module _ {S : Type 0} (accepts : S → Signer → List ℕ → Digest → Bool) where
-  -- likewise, if it is known which seals the sealer accepts
+  -- what stands behind a desk, with the accepted seals in place of the sealer
   abbrev under : Standing S → Standing Accepts
   under s = standing s.validator (accepts s.sealer) s.faults s.lists
 

@@ -36,7 +36,7 @@ module _ {C Q A E S : Type 0} where
       subst (λ (v : V). IsFront (view one).seen v.seen × IsFront (view other).seen v.seen) (sym (look.view ∙ now))
       (both_fronts (view one).seen (view other).seen (subst (λ (v : V). IsFront v.heard v.seen) now look.heard))
 
-  -- and no place stands in both
+  -- no place stands in both passes that are joined
   pub joins_apart : (one other new : Pass C Q A E S) (mid : Me (Kept C Q A E S) (View S E)) (s : Tables.Step (Kept C Q A E S)) (found : ℕ)
       → mid ≡ (joined (view one) (view other), one.seat.me.1) → Looks s mid found new.seat.me → (place : ℕ) → times place (view one).mine + times place (view other).mine ≤ 1
   joins_apart one other new mid s found is look place =

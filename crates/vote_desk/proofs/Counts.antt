@@ -15,7 +15,7 @@ module _ {X : Type 0} where
   total_set f (x ∷ xs) zero v w at = let e : f x ≡ f v = ap f (some-injective x v at) in omega arith
   total_set f (x ∷ xs) (suc i) v w at = let h = total_set f xs i v w at in omega (arith, h)
 
-  -- and if f of it stays
+  -- a sum stays if `f` of the changed item does
   pub total_same : (f : X → ℕ) (l : List X) (i : ℕ) (v w : X) → get_elem? l i ≡ some v → f w ≡ f v → total f (set l i w) ≡ total f l
   total_same f l i v w at e = let h = total_set f l i v w at in omega (arith, h, e)
 

@@ -49,7 +49,7 @@ module _ {A : Type 0} where
       order = λ i j lt d e s. absurd (none i d);
     }
 
-    -- the same requests are due
+    -- requests were made still if the same ones are due under another description
     pub made_same : (Due Now : ℕ → Type 0) (seen : List A) (mine : List ℕ) → ((i : ℕ) → Due i → Now i) → ((i : ℕ) → Now i → Due i) → HaveMade Due callers requests seen mine → HaveMade Now callers requests seen mine
     made_same Due Now seen mine to from m = record {
       at = m.at;

@@ -16,7 +16,7 @@ use Rattle.vote_desk.specs.declared.entry.DeskEntry.{DeskEntry}
 use Rattle.vote_desk.specs.Dealt.{HaveMade, IsDue}
 use Rattle.vote_desk.specs.Desks.{IsOf, mine, seen, share}
 
--- what the calls of a history asked for
+-- the bytes of each call of a history, in order
 abbrev pub asked_in : List DeskEntry → List (List ℕ)
 asked_in entries = map (λ (e : DeskEntry). e.bytes) entries
 
@@ -26,7 +26,7 @@ was_asked (Ok v) = true
 was_asked (Err (no_answer.Vote refusal)) = true
 was_asked (Err no_answer.OutOfMemory) = false
 
--- running out of memory as a reply
+-- whether a member's reply is that memory ran out
 abbrev pub is_starved : Result Voted VoteRefusal → Bool
 is_starved (Ok v) = false
 is_starved (Err no_vote.OutOfMemory) = true
@@ -40,17 +40,18 @@ abbrev pub AreAnswered : List DeskEntry → Type 0
 AreAnswered entries = Each (λ (e : DeskEntry). vote_ended e.reply ≡ answered) entries
 
 module _ {R D S : Type 0} {k : Keeping D} {z : Sealing S} where
-  -- what is handed out to this many callers: nothing was asked with it yet
+  -- what this many callers start with: a pass of the desk that has share enough for them, and made no call yet
   pub record IsFresh (crew : Crew R D S k z) (callers : ℕ) (turn : Turn D S k z) : Type 0 where
     pub of : IsOf crew.desk.now turn.pass
     pub wide : callers ≤ share turn.pass
     pub none : mine turn.pass ≡ []
 
-  -- the requests that are due are asked for by the calls of the pass
+  -- the calls of the pass are those of the requests that are due
   abbrev pub Asked : Crew R D S k z → (ℕ → Type 0) → Turn D S k z → Type 0
   Asked crew Due turn = HaveMade Due crew.callers crew.requests.now (asked_in (seen turn.pass)) (mine turn.pass)
 
-  -- what the callers of these numbers, the second excluded, bring back: if none ran out of memory, each asked for its requests
+  -- what the callers with numbers from `low` to below `high` bring back together: if none ran out of memory, each
+  -- asked for its requests
   pub record HaveAsked (crew : Crew R D S k z) (low high : ℕ) (turn : Turn D S k z) : Type 0 where
     pub of : IsOf crew.desk.now turn.pass
     pub asked : turn.whole ≡ true → Asked crew (IsDue crew.callers low high (length crew.requests.now)) turn

@@ -1,8 +1,9 @@
--- Requests that callers make in turns: those of one caller are those whose places have one remainder by the number of callers. This profile.
+-- Requests that callers make in turns: caller `c` of `callers` makes the requests whose place has the remainder `c` by
+-- `callers`. This profile.
 use Rattle.std.specs.Prelude.{◌≡◌, ℕ, ◌<◌, ◌≤◌, ◌%◌, List, length, slice_get}
 use Rattle.vote_desk.specs.Counts.{times}
 
--- the calls that were made are the requests, as this many callers make them
+-- the calls that were made are the requests in some order, in which the requests of each caller keep theirs
 pub record AreMadeBy {A : Type 0} (callers : ℕ) (requests calls : List A) : Type 0 where
   -- the place at which each request stands among the calls
   pub at : ℕ → ℕ
@@ -14,7 +15,8 @@ pub record AreMadeBy {A : Type 0} (callers : ℕ) (requests calls : List A) : Ty
   -- the requests of one caller stand in their order
   pub order : (i j : ℕ) → i < j → j < length requests → i % callers ≡ j % callers → at i < at j
 
--- of the requests some are due. Each of these stands among the calls that were seen, at one of the own places; each own place is that of one; and those of one caller stand in their order
+-- the requests that are due, and no others, were made at the places `mine` of the calls that were seen: each at one
+-- place, and those of one caller in their order
 pub record HaveMade {A : Type 0} (Due : ℕ → Type 0) (callers : ℕ) (requests seen : List A) (mine : List ℕ) : Type 0 where
   pub at : ℕ → ℕ
   pub stands : (i : ℕ) → Due i → slice_get seen (at i) ≡ slice_get requests i
@@ -23,7 +25,8 @@ pub record HaveMade {A : Type 0} (Due : ℕ → Type 0) (callers : ℕ) (request
   pub each : (place : ℕ) → 0 < times place mine → (i : ℕ) × Due i × (at i ≡ place)
   pub order : (i j : ℕ) → i < j → Due i → Due j → i % callers ≡ j % callers → at i < at j
 
--- the requests before a place that are those of callers from one number to another, which is excluded
+-- whether request `i` is due: it stands before `upto`, and is one of the callers with numbers from `low` to below
+-- `high`
 pub record IsDue (callers low high upto i : ℕ) : Type 0 where
   pub before : i < upto
   pub from : low ≤ i % callers

@@ -50,7 +50,7 @@ module _ {D S : Type 0} {k : Keeping D} {z : Sealing S} where
     pub saw : seen new ≡ before ++ record { bytes = bytes; reply = reply; faults = faults } ∷ []
     pub places : mine new ≡ mine old ++ length before ∷ []
 
-  -- what a call answers: the reply of its entry, or lack of room for an entry, and then none was added for it
+  -- what a call answers: the reply of its entry, or that memory for an entry was refused, and then no entry was added
   abbrev pub Answers : Desk D S k z → DeskPass D S k z → DeskPass D S k z → List ℕ → Result Voted DeskRefusal → Type 0
   Answers desk old new bytes (Ok voted) = Asks desk old new bytes (Ok voted)
   Answers desk old new bytes (Err (no_answer.Vote refusal)) = Asks desk old new bytes (Err refusal)

@@ -3,7 +3,7 @@ use Rattle.std.specs.Prelude.{◌≡◌, List, [], ◌∷◌, ◌++◌}
 use Rattle.vote_desk.specs.declared.kept.Kept.{Kept}
 use Rattle.vote_desk.specs.Histories.{IsHistory}
 
--- the slot holds a clerk in the state that this history led to, and its entries
+-- the slot holds a clerk in the state that this history led to, and the entries of this history
 pub record Stands {C Q A E S : Type 0} (step : S → E → S → Type 0) (state : C → S) (opening : S) (log : List E) (held : Kept C Q A E S) : Type 0 where
   pub entries : held.entries.items ≡ log
   pub history : IsHistory step opening log (state held.clerk)

@@ -12,7 +12,8 @@ use Rattle.vote_desk.specs.Views.{whole}
 abbrev pub made : {O E : Type 0} → List (View O E) → ℕ → ℕ
 made views place = total (λ v. times place v.mine) views
 
--- what each view keeps, if `log` is the history. It is of this opening, or was joined away and is empty
+-- the part of the rule for each view, if `log` is the history: the view is of a desk with this opening, or was joined
+-- away and is empty
 pub record IsFit {O E : Type 0} (opening : O) (log : List E) (v : View O E) : Type 0 where
   pub same : 0 < v.share → v.opening ≡ Some opening
   pub idle : v.share ≡ 0 → (v.mine ≡ []) × (v.out ≡ 0)

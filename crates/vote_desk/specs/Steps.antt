@@ -1,4 +1,5 @@
--- The five kinds of step, and what each reports to its caller: of the step, the pass before, the number found and the pass after.
+-- The five kinds of step at a desk, and what each reports to its caller: a relation of the step, the pass before, the
+-- number found in the word, and the pass after.
 --
 -- | Step       | The word                                            | The view that changes                                              | The slot                                |
 -- | taken      | a compare-exchange of 0 to 1 that finds 0           | the caller's: it has seen the whole history, and has the slot      | leaves home                             |
@@ -25,12 +26,12 @@ module _ {O E X : Type 0} where
     pub view : me'.0 ≡ holding me.0 log
     pub slot : me'.1 ≡ (0, held) ∷ me.1
 
-  -- taken, or out with another pass
+  -- the report of a compare-exchange of 0 to 1: at 0 the slot is the pass's (`Took`), else it is out with another pass
   pub record Takes (Stands : O → List E → X → Type 0) (s : Step X) (me : Me X (View O E)) (found : ℕ) (me' : Me X (View O E)) : Type 0 where
     pub won : found ≡ 0 → Took Stands me me'
     pub busy : found ≢ 0 → (me'.0 ≡ me.0) × (me'.1 ≡ me.1)
 
-  -- looked: what the rule keeps of the view
+  -- the report of a step that changes nothing: what the rule says of the pass's view
   pub record Looks (s : Step X) (me : Me X (View O E)) (found : ℕ) (me' : Me X (View O E)) : Type 0 where
     pub view : me'.0 ≡ me.0
     pub slot : me'.1 ≡ me.1
@@ -38,7 +39,7 @@ module _ {O E X : Type 0} where
     pub rises : IsAscending me.0.mine
     pub below : (place : ℕ) → 0 < times place me.0.mine → place < length me.0.seen
 
-  -- given back, one entry longer
+  -- the report of a swap to 0 that gives the slot back one entry longer
   pub record Adds (Stands : O → List E → X → Type 0) (s : Step X) (me : Me X (View O E)) (found : ℕ) (me' : Me X (View O E)) : Type 0 where
     pub opening : O
     pub same : me.0.opening ≡ Some opening
@@ -49,6 +50,6 @@ module _ {O E X : Type 0} where
     pub view : me'.0 ≡ adding me.0 entry
     pub left : me'.1 ≡ rest me.1
 
-  -- given back, as it was
+  -- the report of a swap to 0 that gives the slot back as it was
   abbrev pub Returns : Step X → Me X (View O E) → ℕ → Me X (View O E) → Type 0
   Returns s me found me' = (me'.0 ≡ returning me.0) × (me'.1 ≡ rest me.1)

@@ -7,7 +7,7 @@ use Rattle.vote_desk.specs.declared.view.View.{View}
 abbrev pub whole : ℕ
 whole = 1048576
 
--- the longer of two lists, and the other one
+-- the longer of two lists, the first if they are equally long; and below, the shorter one
 abbrev pub longer : {A : Type 0} → List A → List A → List A
 longer xs ys = if nat_lt (length xs) (length ys) then ys else xs
 
@@ -46,7 +46,7 @@ module _ {S E : Type 0} where
   abbrev pub waited : View S E → List E → View S E
   waited v log = record v { seen = log; out = 0 }
 
-  -- two passes made one
+  -- the view of two passes that were joined: the longer history, both passes' places, and the sum of the shares
   abbrev pub joined : View S E → View S E → View S E
   joined v w = record {
     opening = v.opening;

@@ -55,10 +55,10 @@ module _ {S : Type 0} (accepts : S → Signer → List ℕ → Digest → Bool) 
     -- observable lists: the due record stands after an answer; after a fault and running out of memory it stands or nothing does
     pub kept : Journaled before.lists after.lists before.validator.member (due before entry.bytes) (vote_ended entry.reply)
 
--- which seals are accepted
+-- a seal scheme in place of a sealer: which seals are accepted
 abbrev pub Accepts : Type 0
 Accepts = Signer → List ℕ → Digest → Bool
 
--- one call, if it is known which seals the sealer accepts
+-- one call at a desk whose sealer is given only by the seals that it accepts
 abbrev pub FollowsUnder : Standing Accepts → DeskEntry → Standing Accepts → Type 0
 FollowsUnder = Follows (λ accepts. accepts)

@@ -57,7 +57,7 @@ impl<R: Wait, D: Keeper + Drop, S: Sealer + Drop> Team<Turn<D, S>> for Crew<'_, 
     }
 }
 
-// Whether both are so.
+// The conjunction of two flags, as a function for contracts.
 fn both(one: bool, two: bool) -> bool
     ensures { result ≡ true → (one ≡ true) × (two ≡ true) }
 {
@@ -118,7 +118,7 @@ fn was_asked(answer: &Result<Voted, DeskRefusal>) -> bool
     }
 }
 
-// Lets the callers ask at a desk, by a pass with the whole share, to which it comes back.
+// Lets the callers ask at a desk with parts of this pass, which has the whole share again afterwards.
 fn run_callers<
     R: Threads + Wait + Sync,
     D: Keeper + Drop + Send + Sync,

@@ -1,4 +1,4 @@
-//! What stands behind a desk.
+//! The [`Clerk`] trait: an object that stands behind a desk and answers one request at a time.
 
 ghost use Rattle.std.specs.Prelude.{ℕ};
 

@@ -55,7 +55,7 @@ impl Asked {
     }
 }
 
-// The same origins in this room.
+// A copy of the origins in this room, which takes no memory.
 fn origins_of(mut room: Vec<Option<Digest>>, origins: &[Option<Digest>]) -> Seq<Option<Digest>>
     requires empty { room.items ≡ [] }
     requires wide { 257 ≤ vec_capacity room }
@@ -68,7 +68,7 @@ fn origins_of(mut room: Vec<Option<Digest>>, origins: &[Option<Digest>]) -> Seq<
     }
 }
 
-// The same statement, whose origins take this room.
+// A copy of the statement, whose origins are put into this room; takes no memory.
 fn statement_in(room: Vec<Option<Digest>>, statement: &Statement) -> Statement
     requires empty { room.items ≡ [] }
     requires wide { 257 ≤ vec_capacity room }
@@ -99,7 +99,7 @@ fn statement_in(room: Vec<Option<Digest>>, statement: &Statement) -> Statement
     }
 }
 
-// The same reply, whose origins take this room.
+// A copy of the reply, whose origins are put into this room; takes no memory.
 fn reply_in(
     room: Vec<Option<Digest>>,
     reply: &Result<Voted, VoteRefusal>,

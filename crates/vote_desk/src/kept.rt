@@ -1,4 +1,4 @@
-//! What the slot of a desk holds.
+//! What the slot of a desk holds: a clerk, and the entries of its calls.
 
 ghost use Rattle.std.specs.Prelude.{◌≡◌, IfOk, OnErr};
 

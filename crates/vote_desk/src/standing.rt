@@ -1,4 +1,4 @@
-//! What contracts see behind a vote desk. It exists only for contracts: no value of it is made.
+//! What contracts see of the member behind a vote desk. It exists only for contracts: no value of it is made.
 
 use validator_core::Validator;
 use wire_bcs::Seq;

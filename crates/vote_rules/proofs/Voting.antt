@@ -87,7 +87,7 @@ taken given votes tx g view new =
     ∙ map-append cast_as given ((tx, g) ∷ [])
     ∙ ap (λ vs. vs ++ voted_as tx g.consumed g.origins ∷ []) view
 
--- the same locks stand for the same votes
+-- locks stand for votes that are given up to equality
 pub stand_at : {locks l : Locks} {votes vs : List Cast} → l ≡ locks → vs ≡ votes → StandFor locks votes → StandFor l vs
 stand_at same view stand tx key =
     ap (λ ls. unless_own key tx (locked_by ls key)) same

@@ -10,7 +10,7 @@ use Rattle.version_store.specs.Stores.{Stored}
 use Rattle.vote_rules.specs.declared.case.Case.{Case}
 use Rattle.vote_rules.specs.declared.case.Case.TheVariants as case
 
--- what a store holds, with no votes
+-- the ballot of a store with no votes: for the cases that look at no vote
 abbrev pub ballot_of : Stored → Ballot
 ballot_of s = record { opening = s.opening; executed = s.executed; votes = [] }
 

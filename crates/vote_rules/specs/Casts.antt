@@ -11,7 +11,7 @@ use Rattle.vote_rules.specs.declared.vote_book.Given.{Given}
 abbrev pub voted_as : Digest → List ObjectKey → List (Option Digest) → Cast
 voted_as digest consumed origins = record { digest = digest; consumed = consumed; origins = origins }
 
--- the votes, in the order of voting
+-- an entry of the book's map as a vote
 abbrev pub cast_as : Digest × Given → Cast
 cast_as e = voted_as e.0 e.1.consumed e.1.origins
 

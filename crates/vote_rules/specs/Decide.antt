@@ -19,7 +19,7 @@ locked_as lock = refused.Locked lock.0 lock.1
 abbrev pub decide_refusal : Stored → Locks → Transaction → Digest → Option DecideRefusal
 decide_refusal s locks t tx = first_some (vote_refusal (ballot_of s) t tx ∷ option_map locked_as (other_lock locks tx (consumed_keys t)) ∷ [])
 
--- memory was refused, or the answer is the one that is said
+-- the call answers these origins if nothing refuses the vote, else the refusal; if memory was refused nothing is said
 abbrev pub Decides : Option DecideRefusal → List (Option Digest) → Result (List (Option Digest)) DecideRefusal → Type 0
 Decides refusal origins (Ok answer) = (refusal ≡ None) × (answer ≡ origins)
 Decides refusal origins (Err refused.OutOfMemory) = Unit {0}

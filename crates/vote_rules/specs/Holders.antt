@@ -23,21 +23,21 @@ digest_of h = h.digest
 abbrev pub cert_of : Held → Certificate
 cert_of h = h.cert
 
--- the one at a place, from 0
+-- the held certificate at a place, counted from 0; none if there is no place or nothing stands there
 abbrev pub at_place : List Held → Option ℕ → Option Held
 at_place held None = None
 at_place held (Some place) = slice_get held place
 
 -- ---- which transaction consumes a version
 
--- the first that does stays
+-- notes that the transaction consumes the version, unless an earlier one is noted
 abbrev pub with_holder : Digest → List (ObjectKey × Digest) → ObjectKey → List (ObjectKey × Digest)
 with_holder tx holders key = if is_some (lookup (key_eq key) holders) then holders else insert_entry key_eq holders key tx
 
 abbrev pub with_holders : Digest → List (ObjectKey × Digest) → List ObjectKey → List (ObjectKey × Digest)
 with_holders tx holders keys = fold (with_holder tx) holders keys
 
--- the version, and the first held transaction that consumes it
+-- the version with the first held transaction that consumes it, none if none does
 abbrev pub meets : List Held → ObjectKey → Option (ObjectKey × Digest)
 meets held key = option_map (λ (e : Held). (key, e.digest)) (find (consumes key) held)
 
@@ -47,7 +47,7 @@ meets held key = option_map (λ (e : Held). (key, e.digest)) (find (consumes key
 abbrev pub sides : Fork → Sides
 sides f = record { key = f.key; first = f.first; second = f.second }
 
--- the fork of a transaction with the one that it meets
+-- the fork of this transaction, the second, with the one that it meets, the first
 abbrev pub fork_by : Digest → Option (ObjectKey × Digest) → Option Sides
 fork_by tx met = option_map (λ (m : ObjectKey × Digest). record { key = m.0; first = m.1; second = tx }) met
 

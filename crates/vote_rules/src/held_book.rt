@@ -1,4 +1,4 @@
-//! The book, and what it answers.
+//! The certificates that a member holds in an epoch, and the first two of them that consume one version.
 
 ghost use Rattle.std.specs.Prelude.{◌≡◌, ◌+◌, ◌<◌, ◌≤◌, ◌++◌, ◌∷◌, [], OnErr, OnOk, false, find, is_some, length, map, option_map, position};
 ghost use Rattle.std.specs.List.{list_any};
@@ -32,7 +32,7 @@ fn add_holder(holders: &mut IndexMap<ObjectKey, Digest>, key: ObjectKey, tx: Dig
     }
 }
 
-/// Notes it for each of the keys; there is room.
+/// Notes for each of the keys that this transaction consumes it, unless an earlier one is noted; there is room.
 fn add_holders(holders: &mut IndexMap<ObjectKey, Digest>, keys: &[ObjectKey], tx: Digest)
     requires { length keys.now ≤ spare holders.old }
     ensures { holders.new.entries ≡ with_holders tx holders.old.entries keys.now }
@@ -42,7 +42,7 @@ fn add_holders(holders: &mut IndexMap<ObjectKey, Digest>, keys: &[ObjectKey], tx
     }
 }
 
-/// Notes a transaction of which no certificate was held; there is room.
+/// Adds the digest of a newly held transaction; there is room.
 fn note_digest(digests: &mut IndexSet<Digest>, tx: Digest)
     requires room { 0 < set_spare digests.old }
     requires new { list_any (λ d. digest_eq tx d) digests.old.keys ≡ false }
@@ -54,7 +54,7 @@ fn note_digest(digests: &mut IndexSet<Digest>, tx: Digest)
     }
 }
 
-/// Puts a certificate after the others; there is room.
+/// Appends a certificate to a list that has room for it.
 fn push_in_room(all: &mut Vec<Held>, held: Held)
     requires { vec_len all.old < vec_capacity all.old }
     ensures { all.new.items ≡ all.old.items ++ held ∷ [] }

@@ -1,4 +1,4 @@
-//! The rule.
+//! The vote rule: the first case in which there is no vote, or the origins that the vote names.
 
 ghost use Rattle.std.specs.Prelude.{◌≡◌, Option, Some, None};
 ghost use Rattle.digest_core.specs.declared.Digest.{Digest};
@@ -15,7 +15,7 @@ use std::alloc::Global;
 use version_store::Store;
 use wire_bcs::Seq;
 
-/// What the store refuses, the first case that applies.
+/// The first case that looks at the store only, and not at locks, in which there is no vote.
 #[tactic(auto, unfolding(protocol_spec::specs::Member::Votes::vote_refusal), using(crate::proofs::Cases::none_locked))]
 fn store_refusal(store: &Store, tx: &Transaction, keys: &[ObjectKey]) -> Option<DecideRefusal>
     requires { keys.now ≡ consumed_keys tx.now }

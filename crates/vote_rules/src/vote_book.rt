@@ -1,4 +1,4 @@
-//! The book, and what it answers.
+//! The votes of a member in an epoch, with the locks that they make.
 
 ghost use Rattle.std.specs.Prelude.{◌≡◌, ◌++◌, ◌∷◌, [], None, OnErr, OnOk, false, find, is_some, option_map};
 ghost use Rattle.chain_types.specs.Equal.{digest_eq};
@@ -18,7 +18,7 @@ use tables::insert_in_room;
 use version_store::Store;
 use wire_bcs::{OutOfMemory, Seq};
 
-/// What a vote says of its transaction.
+/// A vote that was given: the versions that its transaction consumes, and the origins that it named.
 #[derive(Debug, Drop)]
 struct Given {
     consumed: Seq<ObjectKey>,

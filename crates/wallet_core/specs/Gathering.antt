@@ -28,12 +28,14 @@ is_memory refusal.Order = false
 is_memory (refusal.ShortStake weight total) = false
 is_memory (refusal.Differ a b) = false
 
--- memory was refused, or this is said of what was made if there is no reason against it, or the reason is said
+-- the answer of gathering statements: a value of which `Is` holds if there is no reason against it, else the reason;
+-- that memory was refused says nothing
 abbrev pub Gathers : {X : Type 0} → Result X GatherRefusal → Option GatherRefusal → (X → Type 0) → Type 0
 Gathers (Ok x) why Is = (why ≡ None) × Is x
 Gathers (Err e) why Is = is_memory e ≡ false → why ≡ Some e
 
--- why statements of members that are in order give nothing together; each member is the one of a statement, so none lacks one
+-- why statements whose members are in order give nothing together: too little stake, or two of them differ. (`lacks`
+-- never comes here, since each member has a statement.)
 abbrev pub why_collected : Collected → Option GatherRefusal
 why_collected (lacks m) = Some refusal.Order
 why_collected (short weight total) = Some (refusal.ShortStake weight total)
@@ -49,12 +51,13 @@ is_vote epoch digest (statements.End of) = false
 is_vote epoch digest (statements.Checkpoint of number tx) = false
 is_vote epoch digest (statements.Ack of tx effects) = false
 
--- the first statement that is not such a vote; the first of these stands at this place
+-- the refusal of the first statement that is not a vote for this transaction; the first of the list stands at this
+-- place
 abbrev pub no_vote : ℕ → Digest → ℕ → List Sealed → Option GatherRefusal
 no_vote epoch digest place [] = None
 no_vote epoch digest place (v ∷ votes) = first_some (where_true (not (is_vote epoch digest v.statement)) (refusal.NoVote place) ∷ no_vote epoch digest (place + 1) votes ∷ [])
 
--- the members do not ascend, repeat, or are not known
+-- the refusal if the members do not ascend, repeat, or are not known
 abbrev pub out_of_order : List ℕ → List Sealed → Option GatherRefusal
 out_of_order stakes said = where_true (not (is_roll stakes (voters said))) refusal.Order
 
@@ -79,12 +82,14 @@ is_ack epoch digest (statements.Vote of tx origins) = false
 is_ack epoch digest (statements.End of) = false
 is_ack epoch digest (statements.Checkpoint of number tx) = false
 
--- the first statement that is not one; the first of these stands at this place
+-- the refusal of the first statement that is not an acknowledgement of this transaction; the first of the list stands
+-- at this place
 abbrev pub no_ack : ℕ → Digest → ℕ → List Sealed → Option GatherRefusal
 no_ack epoch digest place [] = None
 no_ack epoch digest place (s ∷ acks) = first_some (where_true (not (is_ack epoch digest s.statement)) (refusal.NoAcknowledgement place) ∷ no_ack epoch digest (place + 1) acks ∷ [])
 
--- the first statement that does not acknowledge this one's transaction in its epoch
+-- the refusal of the first statement of the list that does not acknowledge the transaction of this statement, in its
+-- epoch
 abbrev pub unlike : Statement → List Sealed → Option GatherRefusal
 unlike (statements.Ack epoch tx effects) acks = no_ack epoch tx 0 acks
 unlike (statements.Vote epoch tx origins) acks = Some (refusal.NoAcknowledgement 0)

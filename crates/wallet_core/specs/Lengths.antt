@@ -47,7 +47,8 @@ effects_long e = is_long e.written || is_long e.deleted
 abbrev pub checkpoint_long : Checkpoint → Bool
 checkpoint_long c = is_long c.items
 
--- memory was refused, or this is what is made of a value, exactly if none of its lists is too long
+-- the answer of an encoder: `made` only if no list of the value is too long (`long` is false), `TooLong` only if one
+-- is; that memory was refused says nothing
 abbrev pub Encodes : {X : Type 0} → Result X EncodeRefusal → Bool → X → Type 0
 Encodes (Ok x) long made = (long ≡ false) × (x ≡ made)
 Encodes (Err unencoded.TooLong) long made = long ≡ true

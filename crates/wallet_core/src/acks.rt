@@ -71,7 +71,7 @@ fn unfit_acks(
     out_of_order(alloc, committee, acks)
 }
 
-/// Likewise, and acknowledgements with which nothing is wrong may be collected.
+/// What is wrong with acknowledgements, whatever their stake is; if nothing is, they may be collected.
 #[tactic(auto, using(crate::proofs::Fit::are_acks_of, crate::proofs::Fit::sealers_in_order))]
 fn unfit_or_not(
     alloc: Global,

@@ -1,4 +1,4 @@
-//! Digests of values.
+//! The digests of transactions, effects and checkpoints, for a caller that may have lists too long to be encoded.
 
 ghost use Rattle.chain_types.specs.Digests.{transaction_digest};
 ghost use Rattle.checkpoint_core.specs.Checkpoints.{digest_of_checkpoint};

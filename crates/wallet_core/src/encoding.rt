@@ -1,4 +1,4 @@
-//! Bytes of values.
+//! Encoding values whose lists may be too long.
 
 ghost use Rattle.wallet_core.specs.Lengths.{Encodes};
 

@@ -84,7 +84,7 @@ fn unfit_votes(
     out_of_order(alloc, committee, votes)
 }
 
-/// Likewise for votes for a transaction none of whose lists is too long.
+/// What is wrong with votes for this transaction, none of whose lists is too long; the stake is not looked at.
 #[tactic(auto, using(crate::proofs::Fit::are_votes, crate::proofs::Fit::voters_in_order))]
 fn unfit_for(
     alloc: Global,
@@ -137,7 +137,7 @@ pub fn certify(
     ensures exact { Gathers result (why_no_certificate committee.now tx.now votes.now) (λ cert. cert ≡ certificate_of tx.now votes.now) }
     // Each vote is the statement that the seals of the certificate are over.
     ensures agree { IfOk result (λ cert. Each (λ vote. vote.statement ≡ vote_of cert) votes.now) }
-    // So it is valid if the votes are sealed well and the transaction has a valid shape.
+    // The certificate is valid if the votes are sealed well and the transaction has a valid shape.
     ensures valid { IfOk result (λ cert. (rules : Rules) → rules.stakes ≡ committee.now → AreSound rules tx.now votes.now → cert_refusal rules cert ≡ None) }
 {
     if tx.is_too_long() {

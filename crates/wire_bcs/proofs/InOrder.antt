@@ -12,7 +12,7 @@ apart a b less = go (a == b) refl
     go false e = e
     go true e = let same = eqb-true a b e in absurd (omega arith)
 
--- and so is the greater
+-- a greater number is not equal to a smaller one
 pub apart_over : (a b : ℕ) → a < b → (b == a) ≡ false
 apart_over a b less = go (b == a) refl
   where

@@ -26,7 +26,7 @@ spells_16 n = sym (to_le_bytes-is w128 n)
 
 pub ruleset spells = (spells_1, spells_2, spells_4, spells_8, spells_16)
 
--- and the number that std reads is the one that they stand for
+-- the number that std reads from bytes is the one that they stand for
 
 pub stands_1 : (bytes : List ℕ) → length bytes ≡ 1 → value_of bytes ≡ from_le_bytes w8 bytes
 stands_1 bytes len = sym (from_le_bytes-is w8 bytes (omega arith) len)

@@ -1,29 +1,29 @@
--- What a reader's call says of the item or the value that it reads.
+-- How a reader's result and its new place relate to `read`, what the definition reads at the old place.
 use Rattle.std.specs.Prelude.{◌≡◌, ℕ, ◌≤◌, ◌==◌, true, false, List, length, Result, Ok, Err}
 use Rattle.wire_bcs.specs.declared.fault.WireFault.{WireFault}
 use Rattle.wire_bcs.specs.declared.fault.Unread.{Unread}
 use Rattle.wire_bcs.specs.declared.fault.Unread.TheVariants as unread
 use Rattle.wire_bcs.specs.Place.{Place, Stop, Read, left}
 
--- An item was read and the reader stands after it; or there is a fault at the item's first byte, and the
--- reader stands where it stood.
+-- for one item: it was read, and the reader stands after it; or there is a fault at its first byte, and the reader
+-- has not moved. `view` is the part of the result that the definition speaks of
 abbrev pub Item : {X A : Type 0} → (X → A) → Place → Place → Result X WireFault → Read A → Type 0
 Item view old new (Ok x) read = read ≡ Ok (view x, new)
 Item view old new (Err f) read = (read ≡ Err (record { place = old; why = f.why })) × (f.at ≡ old.at) × (new ≡ old)
 
--- The first part of an item of two parts: what was read, or only the row of the fault.
+-- for the first part of an item of two parts: a fault only has the right number, since the caller sets its place
 abbrev pub Within : {X A : Type 0} → (X → A) → Place → Result X WireFault → Read A → Type 0
 Within view new (Ok x) read = read ≡ Ok (view x, new)
 Within view new (Err f) read = (p : Place) × (read ≡ Err (record { place = p; why = f.why }))
 
--- A value was read and the reader stands after it; or the reader stands at the first fault. If memory
--- was refused nothing is said here.
+-- for a value: it was read, and the reader stands after it; or the reader stands at the first fault. If memory was
+-- refused nothing is said
 abbrev pub Gives : {A : Type 0} → Place → Result A Unread → Read A → Type 0
 Gives new (Ok x) read = read ≡ Ok (x, new)
 Gives new (Err (unread.Wire f)) read = (read ≡ Err (record { place = new; why = f.why })) × (f.at ≡ new.at)
 Gives new (Err unread.OutOfMemory) read = Unit {0}
 
--- Likewise for a result that holds the value beside something else.
+-- `Gives` for a result that has the value as one part: `view` takes it out
 abbrev pub GivesAs : {X A : Type 0} → (X → A) → Place → Result X Unread → Read A → Type 0
 GivesAs view new (Ok x) read = read ≡ Ok (view x, new)
 GivesAs view new (Err (unread.Wire f)) read = (read ≡ Err (record { place = new; why = f.why })) × (f.at ≡ new.at)
@@ -46,7 +46,7 @@ Decodes bytes (Ok x) read = read ≡ Ok x
 Decodes bytes (Err (unread.Wire f)) read = read ≡ Err (record { place = record { input = bytes; at = f.at }; why = f.why })
 Decodes bytes (Err unread.OutOfMemory) read = Unit {0}
 
--- Likewise for a result that holds the value beside something else.
+-- `Decodes` for a result that has the value as one part: `view` takes it out
 abbrev pub DecodesAs : {X A : Type 0} → (X → A) → List ℕ → Result X Unread → Result A Stop → Type 0
 DecodesAs view bytes (Ok x) read = read ≡ Ok (view x)
 DecodesAs view bytes (Err (unread.Wire f)) read = read ≡ Err (record { place = record { input = bytes; at = f.at }; why = f.why })

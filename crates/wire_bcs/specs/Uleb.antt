@@ -11,13 +11,13 @@ uleb_in (suc more) n = if nat_lt n 128 then n ∷ [] else ((128 + n % 128) ∷ u
 unfoldable pub uleb : ℕ → List ℕ
 uleb n = uleb_in 4 n
 
--- a byte with its top bit set, before the value and the count of the bytes after it
+-- puts a byte with its top bit set before a ULEB128 that was read: the new value, and one byte more
 abbrev pub behind : ℕ → Result (ℕ × ℕ) ℕ → Result (ℕ × ℕ) ℕ
 behind b (Ok rest) = Ok (b - 128 + 128 * rest.0, suc rest.1)
 behind b (Err why) = Err why
 
--- The value and the count of the bytes after a first one, at most so many and one, or the row of the fault in the table
--- at `WireFault`.
+-- the ULEB128 that goes on after its first byte, in at most `more` bytes and one: the value of these bytes and how
+-- many they are; or the number of the fault in the table at `WireFault`
 abbrev pub uleb_rest : ℕ → List ℕ → Result (ℕ × ℕ) ℕ
 uleb_rest more [] = Err 1
 uleb_rest zero (b ∷ bytes) = if b == 0 then Err 3 else (if nat_lt 15 b then Err 4 else Ok (b, 1))
@@ -28,7 +28,7 @@ abbrev pub uleb_at : List ℕ → Result (ℕ × ℕ) ℕ
 uleb_at [] = Err 1
 uleb_at (b ∷ bytes) = if nat_lt b 128 then Ok (b, 1) else behind b (uleb_rest 3 bytes)
 
--- a value of so many bytes at a place; its faults are at its first byte
+-- what was read at a place with its number of bytes: the value, and the place after it; a fault is at the first byte
 abbrev pub counted : Place → Result (ℕ × ℕ) ℕ → Read ℕ
 counted p (Ok x) = Ok (x.0, forward x.1 p)
 counted p (Err why) = stop p why

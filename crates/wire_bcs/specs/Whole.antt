@@ -15,7 +15,7 @@ end_at x = if length (left x.1) == 0 then Ok x.0 else stop x.1 7
 unfoldable pub whole : {A : Type 0} → Codec A → List ℕ → Result A Stop
 whole c bytes = c.read (start bytes) >>= λ x. end_at x
 
--- what is read is encoded so
+-- what `whole` reads is encoded by just these bytes, and is a value that fits its codec
 pub whole-found : {A : Type 0} (c : Codec A) (bytes : List ℕ) (x : A) → IsBytes bytes → whole c bytes ≡ Ok x → (bytes ≡ c.spell x) × c.fits x
 unfolding whole
 whole-found {A} c bytes x fits e =

@@ -302,7 +302,8 @@ fn uleb_of(bytes: &[u8]) -> Result<(u32, usize), u8>
     }
 }
 
-/// Likewise for the bytes after a first one, if at most so many and one may come.
+/// The value and the number of the bytes of a ULEB128 after its first one, of which there are at most `more` and one;
+/// or the number of its fault.
 #[tactic(auto, using(crate::proofs::Ulebs::room_small, crate::proofs::Ulebs::room_large))]
 fn uleb_rest_of(bytes: &[u8], more: u32) -> Result<(u32, usize), u8>
     requires { more ≤ 3 }

@@ -86,7 +86,7 @@ still_books trust old new None same = ap (λ (x : Still). x.books) same
 still_books trust old new (Some m) (inl same) = inl (ap (λ (x : Still). x.books) same)
 still_books trust old new (Some m) (inr more) = inr (ap (λ (x : Still). x.books) more)
 
--- and no member changed
+-- no member changed if all but what was stated is as before
 pub still_posts : (trust : Trust) (old new : Scene) (m : Option ℕ) → SeenCut still_in trust old m new → new.posts ≡ old.posts
 still_posts trust old new None same = ap (λ (x : Still). x.posts) same
 still_posts trust old new (Some m) (inl same) = ap (λ (x : Still). x.posts) same

@@ -37,7 +37,7 @@ placed_in terms posts n m old count low is placed = subst (IsPlacedPost terms m)
 pub placed_at : (terms : Terms) (posts : List Post) (m : ℕ) (p : Post) (o : Option Seated) → ArePlaced terms posts → Some p ≡ slice_get posts m → o ≡ p.standing → IsPlaced terms m o
 placed_at terms posts m p o all at is = subst (IsPlaced terms m) (sym is) (subst (IsPlacedPost terms m) (sym at) (all m))
 
--- and so is one that is honest
+-- an honest member that stands at a number is placed there
 pub honest_placed : (terms : Terms) (posts : List Post) (m : ℕ) (p : Post) (o : Option Seated) → ArePlaced terms posts → Some p ≡ slice_get posts m → o ≡ honest_at (Some p) → IsPlaced terms m o
 honest_placed terms posts m p o all at is = subst (IsPlaced terms m) (sym is) (by p.honest (subst (IsPlacedPost terms m) (sym at) (all m)))
   where

@@ -268,7 +268,7 @@ left_more r (suc k) sc m =
 -- ---- entry after entry
 
 module _ (trust : Trust) (m n : ℕ) (old : Scene) (before : Option Journals) (lines : List Line) where
-  -- so it begins
+  -- before the first entry all `n` are left, and nothing was added
   pub seen_none : HasSeen trust m n old old before before lines lines n
   seen_none = record { scene = refl; says = refl; done = []; records = refl; adds = adds_none before m; taken = 0; sum = omega arith; reached = refl; gave = refl; books = refl; rules = refl; many = refl }
 

@@ -123,7 +123,7 @@ module _ (trust : Trust) (sc : Scene) (m : ℕ) where
   end_leaves told result = left_on r sc m ends told told result (subst (λ (x : Option Record). AddsLeft told told m x) (sym (none_left r ends (ends_silent r) sc.posts m)) (keeps_same told))
 
   module _ (tx : Digest) where
-    -- and after an acknowledgement
+    -- the scene after an acknowledgement is that of a call without a record
     pub ack_scene : (said : List Said) → said ≡ sc.said ++ map (said_by m) (ack_statements r tx (state_at sc m)) → saying sc said ≡ called_scene r sc m (acks tx)
     ack_scene said told =
         ap (saying sc) (told ∙ ap (λ (xs : List Statement). sc.said ++ map (said_by m) xs) (sym (ack_stated r tx (state_at sc m))))

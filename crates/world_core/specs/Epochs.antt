@@ -1,4 +1,5 @@
--- What is said of the calls by which an epoch ends and of acknowledgements, by what is known under names.
+-- The report's words for Ends, turns and acknowledgements, in terms of the directory of names alone (the source has no
+-- whole world at hand where it words them).
 use Rattle.std.specs.Prelude.{ℕ, Bool, List, [], ◌∷◌, Option, Some, None}
 use Rattle.digest_core.specs.declared.Digest.{Digest}
 use Rattle.protocol_spec.specs.Chain.Certificates.{Rules}
@@ -21,7 +22,8 @@ use Rattle.world_spec.specs.Known.{Known, world_with}
 use Rattle.world_spec.specs.Posts.{Post}
 use Rattle.world_spec.specs.SceneSteps.{says_in}
 
--- what a member that is up says of its End, and of an acknowledgement
+-- the report's words for a member's End, and for its acknowledgement of a transaction; `None` stands for a member that
+-- is down
 abbrev pub end_text_by : Known → Rules → Option Member → EndText
 end_text_by k r None = end_text.Down
 end_text_by k r (Some m) = end_answered (world_with k) (end_answer r m)
@@ -30,7 +32,7 @@ abbrev pub ack_text_by : Known → Rules → Digest → Option Member → AckTex
 ack_text_by k r tx None = ack_text.Down
 ack_text_by k r tx (Some m) = ack_answered (world_with k) (ack_answer r m tx)
 
--- what it states then
+-- what the member states by that answer: its End or its acknowledgement if it gives one, and nothing else
 abbrev pub end_statements : Rules → Option Member → List Statement
 end_statements r None = []
 end_statements r (Some state) = answered_statement (end_answer r state)
@@ -44,6 +46,7 @@ turn_lines_by k r m finds_down = line.Turn m turn_text.Down ∷ []
 turn_lines_by k r m (stops kept x) = line.Turn m turn_text.Stopped ∷ []
 turn_lines_by k r m (answers before x) = turn_answered (world_with k) m before (turn_answer r before)
 
--- what a faulty member acknowledges, by the members as they stand
+-- a faulty member's acknowledgement: with the digest of the first honest member that executed the transaction, zeros
+-- if none did, spoiled if the line says so
 abbrev pub false_ack_by : List Post → Made → Bool → Statement
 false_ack_by posts t spoiled = statement.Ack t.signed.tx.epoch t.digest (spoiled_if spoiled (digest_or_zero (says_in (executed_digest t.digest) posts)))

@@ -8,12 +8,13 @@ use Rattle.world_spec.specs.Moves.{Move, requests, delivers, starts_again, Reque
 use Rattle.world_spec.specs.Scene.{Scene}
 use Rattle.world_spec.specs.SceneSteps.{AddsLine, MayAddLine, Work, records_left}
 
--- Ok: the records that the line leaves were added, or nothing if it leaves none; else the first of them
+-- what a line adds to observable lists: if it was completed, all records that it leaves; after a fault, the first few
+-- of them (some, none or all)
 abbrev pub LeavesAs : {A E : Type 0} → Rules → Scene → Work → Option Journals → Option Journals → Result A E → Type 0
 LeavesAs r sc work before now (Ok a) = AddsLine (records_left r sc work) before now
 LeavesAs r sc work before now (Err e) = MayAddLine (records_left r sc work) before now
 
--- calls that may leave a record
+-- whether a call may append a record
 abbrev pub may_record : Call → Bool
 may_record ends = false
 may_record (acks tx) = false
@@ -23,22 +24,22 @@ abbrev pub asks_record : Request → Bool
 asks_record (direct call) = may_record call
 asks_record ask = true
 
--- moves that hand one call to a member, which may leave a record
+-- whether a move hands exactly one call to a member, which may append a record
 abbrev pub calls_one : Move → Bool
 calls_one (requests m ask) = asks_record ask
 calls_one mv = false
 
--- lines that do
+-- whether a line does
 abbrev pub is_call : Event → Bool
 is_call e = calls_one (move_of e)
 
--- moves that touch no record
+-- whether a move reads and appends no record
 abbrev pub is_quiet_move : Move → Bool
 is_quiet_move (requests m ask) = not (asks_record ask)
 is_quiet_move (delivers m entries) = false
 is_quiet_move (starts_again m) = false
 is_quiet_move mv = true
 
--- lines that touch no record
+-- whether a line reads and appends no record; each line is a call, quiet, a `see` or a `restart`
 abbrev pub is_quiet : Event → Bool
 is_quiet e = is_quiet_move (move_of e)

@@ -1,4 +1,4 @@
--- What others ask of a world. Source: this profile.
+-- What callers look up in a world: checkpoints, transactions, and a vote's line. Source: this profile.
 use Rattle.std.specs.Prelude.{ℕ, Option, Result, option_and_then, option_map, slice_get}
 use Rattle.protocol_spec.specs.declared.refusals.VoteRefusal.{VoteRefusal}
 use Rattle.chain_types.specs.declared.transactions.SignedTx.{SignedTx}
@@ -30,6 +30,6 @@ transaction_of k tx = option_map (λ (t : Made). t.signed.tx) (made_of k tx)
 abbrev pub signed_at : Known → ℕ → Option SignedTx
 signed_at k place = option_map (λ (t : Made). t.signed) (made_at k place)
 
--- the line of a vote with this answer; the transaction goes by the name of the first line that made it
+-- the report's line for a vote with this answer; the transaction goes by the name of the first line that made it
 abbrev pub vote_line_by : Known → ℕ → Digest → Result Voted VoteRefusal → Line
 vote_line_by k m tx answer = line.Vote m (tx_name (world_with k) tx) (vote_answered (setting_with k) (world_with k) answer)

@@ -10,7 +10,7 @@ use Rattle.world_spec.specs.Posts.{seat_at}
 use Rattle.world_core.specs.SeatRestarts.{IsJournal}
 use Rattle.world_core.specs.declared.replay.Replayed.{Replayed}
 
--- the member started from its records, which are this many
+-- the outcome of a replay: a member started from its records in a new epoch 0, and the number of these records
 pub record IsReplayed (r : Rules) (opening : List Object) (told : Option Journals) (terms : Terms) (m : ℕ) (given : Replayed) : Type 0 where
   pub kept : List (List ℕ)
   pub state : Member

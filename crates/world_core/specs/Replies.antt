@@ -1,4 +1,5 @@
--- What is replied to a call on a member, against what the definition says becomes of the call. Source: this profile.
+-- A seat's reply to a call, against what becomes of the call in the definition (`Reached`): the member is down, stops,
+-- or answers. Source: this profile.
 use Rattle.std.specs.Prelude.{◌≡◌, ◌⊎◌, ℕ, Bool, true, false, List, Option, Some, None, is_some, option_map, Result, Ok, Err, if◌then◌else◌}
 use Rattle.digest_core.specs.declared.Digest.{Digest}
 use Rattle.quorum_core.specs.declared.signer.Signer.{Signer}
@@ -38,14 +39,14 @@ pub record HasStopped (what : Reached) : Type 0 where
   pub due : Record
   pub is : what ≡ stops kept due
 
--- the call answered as said of the member before it
+-- the call was answered, and the answer is the one that `Says` wants of the member's state before it
 pub record HasAnswered {A : Type 0} (Says : Member → A → Type 0) (what : Reached) (answer : A) : Type 0 where
   pub before : Member
   pub due : Option Record
   pub is : what ≡ answers before due
   pub says : Says before answer
 
--- the call of a member that is up was answered, or stopped
+-- the reply of a member that is up: an answer, or none if it stopped at an armed stop
 abbrev pub Met : {A : Type 0} → (Member → A → Type 0) → Reached → Option A → Type 0
 Met Says what None = HasStopped what
 Met Says what (Some answer) = HasAnswered Says what answer
@@ -59,12 +60,12 @@ Replies Says what (reply.Answered answer) = HasAnswered Says what answer
 abbrev pub stop_at : Member → Option Bool → Option Bool
 stop_at m armed = if is_some (fork_of m) then None else armed
 
--- ---- what a member that is up answers; neither a fault of the keeper nor running out of memory
+-- ---- the answers of a member that is up; an answer is neither a fault of the keeper nor running out of memory
 
 abbrev pub Accepting : Type 0
 Accepting = Signer → List ℕ → Digest → Bool
 
--- the vote that the definition gives, sealed by the member
+-- the member gives the vote that the definition gives, sealed; the records below say this of the other calls
 pub record SaysVote (r : Rules) (accepts : Accepting) (m : ℕ) (bytes : List ℕ) (before : Member) (given : Result Sent VoteRefusal) : Type 0 where
   pub answer : Votes accepts m (vote_answer r before bytes) given
   pub ended : vote_ended given ≡ answered
@@ -91,12 +92,14 @@ pub record SaysTurn (r : Rules) (before : Member) (given : Result (List Digest) 
 
 -- ---- the record
 
--- Ok: the record that the call leaves was added, if there is one; else it was added or nothing was
+-- what a call adds to observable lists: if it was completed, the record that it leaves, if any; after a fault, that
+-- record or nothing
 abbrev pub Leaves : {A E : Type 0} → Option Journals → Option Journals → ℕ → Option Record → Result A E → Type 0
 Leaves before now m x (Ok a) = AddsLeft before now m x
 Leaves before now m x (Err e) = MayAddLeft before now m x
 
--- Ok: these bytes were added; else they were added or nothing was
+-- what an append of these bytes adds to observable lists: the bytes if it succeeded; after a fault, the bytes or
+-- nothing
 abbrev pub AddsBytes : {A E : Type 0} → Option Journals → Option Journals → ℕ → List ℕ → Result A E → Type 0
 AddsBytes before now m bytes (Ok a) = AddsRecord before now m bytes
 AddsBytes before now m bytes (Err e) = AddsRecord before now m bytes ⊎ KeepsJournals before now
@@ -106,7 +109,7 @@ abbrev pub KeptWhere : {A E : Type 0} → Bool → Option Journals → Option Jo
 KeptWhere true before now m bytes result = AddsBytes before now m bytes result
 KeptWhere false before now m bytes result = KeepsJournals before now
 
--- ---- answers that are none
+-- ---- refusals that are no answers: the fault that each stands for
 
 abbrev pub vote_fault : Result Sent VoteRefusal → Option SeatFault
 vote_fault (Err no_vote.KeepFault) = Some faults.KeepFault
@@ -138,8 +141,8 @@ turn_fault (Err no_turn.KeepFault) = Some faults.KeepFault
 turn_fault (Err no_turn.OutOfMemory) = Some faults.OutOfMemory
 turn_fault answer = None
 
--- ---- on paper
+-- ---- records as bytes
 
--- the encoding of a record that is due
+-- the encoding of the record that a call leaves, none if it leaves none
 abbrev pub spelled_due : Option Record → Option (List ℕ)
 spelled_due x = option_map journals.journal_record.spell x

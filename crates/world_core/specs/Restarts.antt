@@ -19,7 +19,8 @@ use Rattle.world_core.specs.declared.world.WorldFault.TheVariants as fault
 abbrev pub Accepting : Type 0
 Accepting = Signer → List ℕ → Digest → Bool
 
--- the member started from its records, and the line says how many they are
+-- a restart that succeeds: the member starts from its records in a new epoch 0, and the line says how many records
+-- these are
 pub record ComesBack (accepts : Accepting) (told : Option Journals) (m : ℕ) (old new : Scene) (lines : List Line) : Type 0 where
   pub kept : List (List ℕ)
   pub state : Member
@@ -28,12 +29,13 @@ pub record ComesBack (accepts : Accepting) (told : Option Journals) (m : ℕ) (o
   pub scene : new ≡ record old { posts = started_at old.terms old.posts m state }
   pub says : lines ≡ line.Restart m (restart_text.Records (length kept)) ∷ []
 
--- a member that is not there has no records
+-- a restart of a member that is not there: nothing changes, and the line says 0 records
 pub record NoneComesBack (m : ℕ) (old new : Scene) (lines : List Line) : Type 0 where
   pub scene : new ≡ old
   pub says : lines ≡ line.Restart m (restart_text.Records 0) ∷ []
 
--- the first record of this member from which it does not start stands at this place
+-- a restart that fails at a bad record: the fault names the member and the place of the first record from which it
+-- does not start
 pub record StaysDown (accepts : Accepting) (told : Option Journals) (m : ℕ) (old : Scene) (member place : ℕ) : Type 0 where
   pub who : member ≡ m
   pub bad : HasBadRecord (rules_in accepts old) old.opening told m place
@@ -45,11 +47,11 @@ RestartsAs accepts told m old new p (Err (fault.BadRecord member place)) = Stays
 RestartsAs accepts told m old new p (Err fault.KeepFault) = Unit {0}
 RestartsAs accepts told m old new p (Err fault.OutOfMemory) = Unit {0}
 
--- what a step says of a start
+-- what a step promises of a start, and nothing of any other move
 abbrev pub MayStart : Accepting → Option Journals → Scene → Scene → Move → Result (List Line) WorldFault → Type 0
 MayStart accepts told old new (starts_again m) result = RestartsAs accepts told m old new (slice_get old.posts m) result
 MayStart accepts told old new mv result = Unit {0}
 
--- likewise of a line that is one
+-- what a step promises of a `restart` line, and nothing of any other line
 abbrev pub MayRestart : Accepting → Option Journals → Scene → Scene → Event → Result (List Line) WorldFault → Type 0
 MayRestart accepts told old new e result = MayStart accepts told old new (move_of e) result

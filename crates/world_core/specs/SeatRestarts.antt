@@ -9,12 +9,12 @@ use Rattle.world_spec.specs.Starts.{started}
 use Rattle.world_spec.specs.Terms.{Terms}
 use Rattle.world_spec.specs.Posts.{Post, started_at}
 
--- these are the records of a member, if lists are observable
+-- these are the member's records in the observable lists; if no lists are observable, nothing is known of them
 abbrev pub IsJournal : Option Journals → ℕ → List (List ℕ) → Type 0
 IsJournal None m kept = Unit {0}
 IsJournal (Some lists) m kept = kept ≡ journal_of lists m
 
--- the member started from this many records
+-- a restart of a member that is there: it started from its records, and `count` is their number
 pub record HasRestarted (r : Rules) (opening : List Object) (told : Option Journals) (terms : Terms) (m : ℕ) (old new : List Post) (count : ℕ) : Type 0 where
   pub kept : List (List ℕ)
   pub state : Member
@@ -23,7 +23,7 @@ pub record HasRestarted (r : Rules) (opening : List Object) (told : Option Journ
   pub starts : started r opening kept ≡ Ok state
   pub posts : new ≡ started_at terms old m state
 
--- a member that is not there leaves all as it was
+-- a restart of a member that is not there: no member changes, and the count is 0
 pub record NoneRestarted (old new : List Post) (count : ℕ) : Type 0 where
   pub many : count ≡ 0
   pub posts : new ≡ old

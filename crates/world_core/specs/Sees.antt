@@ -1,4 +1,4 @@
--- What is said of entries, by what is known under names; what a line that hands in several has done so far.
+-- The report's words for entries, in terms of the directory of names alone; and what a `see` line has done so far.
 use Rattle.std.specs.Prelude.{◌≡◌, ◌+◌, ℕ, false, List, [], ◌∷◌, ◌++◌, length, slice_get, Option, None, option_and_then, option_map, Result, Ok, Err, if◌then◌else◌}
 use Rattle.chain_messages.specs.declared.messages.Entry.{Entry}
 use Rattle.journal_core.specs.declared.records.Record.{Record}
@@ -32,13 +32,15 @@ next_for sequences m = option_map (numbered_call m.sequence.number) (if m.sequen
 abbrev pub next_by : List Post → List (List Entry) → ℕ → Option Call
 next_by posts sequences m = option_and_then (next_for sequences) (option_map seat_state (standing_at (slice_get posts m)))
 
--- Ok: these records were added; else the first of them
+-- what several calls add to observable lists: if all were completed, all these records; after a fault, the first few
+-- of them
 abbrev pub LeavesAll : {A E : Type 0} → Option Journals → Option Journals → ℕ → List Record → Result A E → Type 0
 LeavesAll before now m records (Ok a) = AddsAll before now m records
 LeavesAll before now m records (Err e) = AddsFront before now m records
 
--- this many entries are left of those that a member was to be handed: what is still to come of them is what is still to come
--- of the whole, after the lines and records so far; and it stands as after those that it was handed
+-- the state of a `see` line for `n` entries while `still` of them are left: the world is the one after `taken`
+-- entries, and the lines and records so far, followed by those of the entries that are left, are those of the whole
+-- line
 pub record HasSeen (trust : Trust) (m n : ℕ) (old now : Scene) (before told : Option Journals) (lines so_far : List Line) (still : ℕ) : Type 0 where
   pub scene : sees_to (rules_in trust.accepts old) still now m ≡ sees_to (rules_in trust.accepts old) n old m
   pub says : so_far ++ entries_lines_in trust still now m ≡ lines ++ entries_lines_in trust n old m

@@ -1,4 +1,4 @@
--- What no step changes.
+-- What no line of a run changes.
 use Rattle.std.specs.Prelude.{◌≡◌, length}
 use Rattle.world_spec.specs.Scene.{Scene}
 

@@ -18,6 +18,6 @@ sums_of m = record {
   sum = currency_sum (live_objects m) 0;
 }
 
--- those of a member that is honest and up
+-- the sums of the member at this place; none if it is not there, faulty or down
 abbrev pub sums_at : Option Post → Option Sums
 sums_at post = option_map (λ (seat : Seated). sums_of seat.state) (honest_at post)

@@ -1,4 +1,4 @@
--- What is said of a call, by what is known under names.
+-- The report's words for a call, by what became of it, in terms of the directory of names alone (no whole world).
 use Rattle.std.specs.Prelude.{ℕ, List, [], ◌∷◌, Option, Some, None}
 use Rattle.report_text.specs.declared.lines.Line.{Line}
 use Rattle.report_text.specs.declared.lines.Line.TheVariants as line

@@ -1,4 +1,5 @@
--- Which members may vote falsely, and what is kept of a vote.
+-- Whether a member is honest, by its flag of the set-up: only a faulty one may vote falsely, and one that is not there
+-- counts as faulty. And what is kept of a vote.
 use Rattle.std.specs.Prelude.{ℕ, Bool, false, List, [], ◌∷◌, Option, Some, None, Result, Ok, Err}
 use Rattle.protocol_spec.specs.declared.answers.Voted.{Voted as Sent}
 use Rattle.protocol_spec.specs.declared.refusals.VoteRefusal.{VoteRefusal}

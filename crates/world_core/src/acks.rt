@@ -31,7 +31,8 @@ use world_lines::{
     Directory, MadeTx, MakesSeals, SaidBook, ack_text, final_text, one_line, spoiled_if,
 };
 
-/// The ending for a member's answer; its acknowledgement is stated, or nothing where memory is refused.
+/// The ending of the report's line for a member's answer about an acknowledgement; an acknowledgement that it gave is
+/// added to what was stated. Out of memory: nothing is added.
 fn tell_ack(
     directory: &Directory,
     said: &mut SaidBook,
@@ -52,7 +53,8 @@ fn tell_ack(
     }
 }
 
-/// A member acknowledges a transaction, or says why not.
+/// Asks a member to acknowledge a transaction, adds its acknowledgement to what was stated, and answers the ending of
+/// the line.
 #[tactic(auto, using(crate::proofs::Saying::ack_by_none, crate::proofs::Saying::none_acks, crate::proofs::Saying::ack_by_some, crate::proofs::Saying::some_acks))]
 fn say_ack<S: Sealer>(
     seats: &Seats,

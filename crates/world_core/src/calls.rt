@@ -37,7 +37,8 @@ use std::thread::Threads;
 use wire_bcs::{OutOfMemory, Seq};
 use world_lines::{Directory, MakesSeals, SaidBook, hold_text, one_line, run_lines, vote_text};
 
-/// The ending for a member's answer to a request for its vote; its vote is stated, or nothing where memory is refused.
+/// The ending of the report's line for a member's answer to a request for its vote; a vote that it gave is added to
+/// what was stated. Out of memory: nothing is added.
 fn tell_vote(
     directory: &Directory,
     said: &mut SaidBook,
@@ -146,7 +147,8 @@ fn run_line(alloc: Global, member: u32, text: RunText) -> Result<Seq<Line>, Seat
     }
 }
 
-/// The lines of a run; its checkpoints are stated, and only the first of them, or none, where memory is refused.
+/// The report's lines for a run; the checkpoints that it completed are added to what was stated. Out of memory: only
+/// the first few are added, or none.
 #[tactic(auto, using(world_lines::proofs::Growing::none_added, crate::proofs::Stated::some_said))]
 fn tell_run(
     directory: &Directory,
@@ -165,7 +167,7 @@ fn tell_run(
     Ok(lines)
 }
 
-/// This many workers, but 1 to 16. A run line that is read has no other number.
+/// The number of workers, brought into 1 to 16. (The reader of a schedule admits no other number.)
 fn workers_of(number: u32) -> u32
     ensures { (0 < result) × (result ≤ 16) }
 {
@@ -213,7 +215,7 @@ fn run<R: Threads + Sync, D: Keeper, S: Sealer>(
     }
 }
 
-/// A list of one line.
+/// A list of this one line; the only fault is running out of memory.
 pub(crate) fn told(alloc: Global, line: Line) -> Result<Seq<Line>, SeatFault>
     ensures lines { IfOk result (λ lines. lines ≡ line ∷ []) }
     ensures fault { IsErrOf result fault.KeepFault → ⊥ }

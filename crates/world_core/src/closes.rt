@@ -63,7 +63,7 @@ fn close<R: Threads + Sync, D: Keeper, S: Sealer>(
 }
 
 impl World {
-    /// Closes the epoch of a member.
+    /// Closes the epoch of a member, and answers the ending of the line; the world's other parts stay.
     #[tactic(auto, using(crate::proofs::Closing::close_states, crate::proofs::Closing::close_text_is))]
     fn shut<R: Threads + Sync, D: Keeper, S: MakesSeals>(
         &mut self,

@@ -1,4 +1,4 @@
-//! The line by which a member says that its epoch is to end.
+//! The line `end`: a member says that its epoch is to end.
 
 ghost use Rattle.std.specs.Prelude.{◌≡◌, ◌∷◌, ◌++◌, [], IfOk, OnErr, OnOk, map, option_map, slice_get};
 ghost use Rattle.report_text.specs.declared.lines.Line.TheVariants as line;
@@ -24,7 +24,8 @@ use std::alloc::Global;
 use wire_bcs::{OutOfMemory, Seq};
 use world_lines::{Directory, MakesSeals, SaidBook, end_text, one_line};
 
-/// The ending for a member's answer; the End that it says is stated, or nothing where memory is refused.
+/// The ending of the report's line for a member's answer about its End; an End that it gave is added to what was
+/// stated. Out of memory: nothing is added.
 fn tell_end(
     directory: &Directory,
     said: &mut SaidBook,
@@ -45,7 +46,7 @@ fn tell_end(
     }
 }
 
-/// A member says its End, or why not.
+/// Asks a member for its End, adds an End that it gives to what was stated, and answers the ending of the line.
 #[tactic(auto, using(crate::proofs::Saying::end_by_none, crate::proofs::Saying::none_ends, crate::proofs::Saying::end_by_some, crate::proofs::Saying::some_ends))]
 fn say_end<S: Sealer>(
     seats: &Seats,
@@ -64,7 +65,7 @@ fn say_end<S: Sealer>(
     }
 }
 
-/// The line for what a member said.
+/// The report's line for an `end` with this ending, as a list.
 fn end_line(alloc: Global, member: u32, text: EndText) -> Result<Seq<Line>, OutOfMemory>
     ensures { IfOk result (λ lines. lines ≡ line.End member text ∷ []) }
 {

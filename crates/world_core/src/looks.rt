@@ -1,4 +1,5 @@
-//! What others ask of a world: its committee, its members, and the transactions that lines made.
+//! Lookups in a world for its callers: the committee, members, checkpoints, and the transactions that lines made. They
+//! change nothing.
 
 ghost use Rattle.std.specs.Prelude.{◌≡◌, IfOk, IfSome, Some, option_copied, option_map, slice_get};
 ghost use Rattle.chain_messages.specs.Messages as messages;

@@ -1,4 +1,4 @@
-//! Lines that order entries.
+//! The `order` lines: they append an entry to the sequence of the open epoch.
 
 ghost use Rattle.std.specs.Prelude.{◌≡◌, ◌∷◌, ◌++◌, [], IfOk, OnErr, OnOk, Some, length};
 ghost use Rattle.chain_messages.specs.declared.messages.Entry.TheVariants as entry;
@@ -25,7 +25,7 @@ use wire_bcs::{OutOfMemory, Seq};
 use world_lines::{MakesSeals, one_line, order_and_rise, order_end_line, order_line, sealed_end};
 
 impl World {
-    /// Each entry that was ordered can be kept, as the book of sequences has it. Nothing runs.
+    /// A lemma, nothing runs: each entry that was ordered can be kept in a record, by the invariant of [`OrderBook`].
     #[tactic(auto, using(crate::proofs::Ordered::can_keep))]
     pub(crate) fn can_keep(&self)
         ensures { AreKeepable self.now.sequences }

@@ -1,4 +1,4 @@
-//! Lines that touch no record.
+//! Lines that read and append no record: `tx`, `stop`, `show`, and those that form, order or state something.
 
 ghost use Rattle.std.specs.Prelude.{◌≡◌, ◌∷◌, [], IfOk, OnErr, OnOk, slice_get, true};
 ghost use Rattle.report_text.specs.declared.lines.Line.TheVariants as line;

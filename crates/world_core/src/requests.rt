@@ -1,4 +1,4 @@
-//! Requests to a member that is up.
+//! Requests to a member that is up: votes, certificates, and runs.
 
 ghost use Rattle.std.specs.Prelude.{◌≡◌, ◌<◌, ◌≤◌, ℕ, IfOk, IsErrOf, None, OnErr, OnOk, is_some, length, true};
 ghost use Rattle.std.specs.Thread.{IsSync};
@@ -20,11 +20,11 @@ use quorum_core::Sealer;
 use std::thread::Threads;
 use validator_core::{HoldRefusal, Ran, RunRefusal, Validator, VoteRefusal, Voted};
 
-/// A request to a member.
+/// A call as a value, so that one piece of code (stops, faults, records) serves all kinds of calls.
 pub(crate) trait Asks {
     type Answer: Drop;
 
-    /// The definition's call.
+    /// The call of the definition that the request stands for.
     ghost call: { Self → Call };
 
     /// What a member of this number answers, under these rules and accepted seals, in the state before the call.

@@ -1,4 +1,4 @@
-//! Restarts.
+//! The line `restart`: a member starts from its records.
 
 ghost use Rattle.std.specs.Prelude.{◌≡◌, ◌≤◌, IsErrOf, OnErr, length, slice_get};
 ghost use Rattle.outside.specs.Causes.{Rose};

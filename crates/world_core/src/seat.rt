@@ -1,4 +1,4 @@
-//! One member, its stop included.
+//! A seat: one member of a committee, up or down, with its armed stop.
 
 ghost use Rattle.std.specs.Prelude.{◌≡◌, ◌<◌, ◌≤◌, IfOk, IsErrOf, None, Some, if◌then◌else◌, is_some, option_and_then, option_copied, true};
 ghost use Rattle.outside.specs.Causes.{Rose};

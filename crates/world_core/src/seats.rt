@@ -147,7 +147,7 @@ impl Seats {
         seat.arm(kept);
     }
 
-    /// Asks a member.
+    /// Hands a request to the member, and answers what became of it; `Down` if the member is not there.
     fn call<R: Threads + Sync, D: Keeper, S: Sealer, Q: Asks>(
         &mut self,
         rt: &R,

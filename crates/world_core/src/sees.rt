@@ -1,4 +1,4 @@
-//! The line that hands a member entries of its sequence.
+//! The line `see`: hands a member entries of its sequence.
 
 ghost use Rattle.std.specs.Prelude.{◌≡◌, ◌≤◌, ◌∷◌, ◌++◌, [], IfOk, IsErrOf, OnErr, OnOk, Some, false, length, map, option_map};
 ghost use Rattle.outside.specs.Causes.{Rose};
@@ -38,8 +38,8 @@ use validator_core::Validator;
 use wire_bcs::{OutOfMemory, Seq};
 use world_lines::{Directory, MakesSeals, OrderBook, SaidBook, add_entry_lines, one_line, tx_text};
 
-/// Adds the lines for a member's answer to an entry, and says whether the line goes on after it; the checkpoints that
-/// the entry completed are stated, and only the first of them, or none, where memory is refused.
+/// Adds the report's lines for a member's answer to an entry, and answers whether the `see` line goes on after it. The
+/// checkpoints that the entry completed are added to what was stated; out of memory: only the first few, or none.
 #[tactic(auto, using(world_lines::proofs::Growing::none_added, crate::proofs::Stated::some_said))]
 fn tell_entry(
     directory: &Directory,
@@ -71,7 +71,7 @@ fn see_line(alloc: Global, member: u32, text: SeeText) -> Result<Seq<Line>, Seat
     told(alloc, Line::See { member, text })
 }
 
-/// Adds a line after which nothing goes on.
+/// Adds the line after which the `see` line ends: always answers false.
 fn add_last(lines: &mut Seq<Line>, line: Line) -> Result<bool, SeatFault>
     ensures lines { OnOk result (lines.new ≡ lines.old ++ line ∷ []) }
     ensures goes { IfOk result (λ goes. goes ≡ false) }

@@ -1,4 +1,4 @@
-//! What members start from.
+//! How members start: fresh at the set-up, or from the records of a keeper.
 
 ghost use Rattle.std.specs.Prelude.{◌≡◌, ◌<◌, ◌≤◌, [], IfOk, IsErrOf, true};
 ghost use Rattle.outside.specs.Causes.{Rose};
@@ -17,7 +17,7 @@ use std::alloc::Global;
 use validator_core::{StartRefusal, Validator};
 use wire_bcs::{OutOfMemory, Seq};
 
-/// A new member.
+/// A member of this number in a fresh epoch 0 that opens with these objects, without records.
 #[tactic(auto, unfolding(world_spec::specs::Starts::started))]
 pub(crate) fn start_new<S: Sealer>(
     alloc: Global,

@@ -1,4 +1,4 @@
-//! Requests to a member whose stop may be armed.
+//! Armed stops: a request to a member that may be cut off at the append of its record.
 
 ghost use Rattle.std.specs.Prelude.{◌≡◌, ◌<◌, ◌≤◌, IfOk, IsErrOf, None, OnOk, is_some, length, slice_get, true};
 ghost use Rattle.outside.specs.Causes.{Rose};
@@ -34,7 +34,8 @@ fn first_record(paper: &mut MemKeeper, member: u32) -> Result<Option<Seq<u8>>, O
     }
 }
 
-/// Asks a member that is up and keeps no record: the answer, and the encoding of the record that is due.
+/// Asks a member that is up, over a keeper in memory that is thrown away: the answer, and the encoding of the record
+/// that the call would leave, if any.
 #[tactic(auto, using(crate::proofs::Replying::paper_due))]
 fn ask_on_paper<R: Threads + Sync, S: Sealer, Q: Asks>(
     rt: &R,

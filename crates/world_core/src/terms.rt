@@ -1,4 +1,4 @@
-//! What the members of a committee go by.
+//! The terms of a committee: stakes, and the limit of writers.
 
 ghost use Rattle.std.specs.Prelude.{◌≡◌, ◌<◌, ◌^◌, length};
 ghost use Rattle.world_spec.specs.Starts.{AreApart, started};

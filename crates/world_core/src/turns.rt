@@ -1,4 +1,4 @@
-//! The line that turns a member to the next epoch.
+//! The line `turn`: turns a member to the next epoch.
 
 ghost use Rattle.std.specs.Prelude.{◌≡◌, ◌≤◌, ◌∷◌, [], IfOk, IsErrOf, OnErr, OnOk, length};
 ghost use Rattle.outside.specs.Causes.{Rose};

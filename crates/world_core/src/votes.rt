@@ -1,4 +1,4 @@
-//! False votes.
+//! The line `fvote`: a false vote of a faulty member.
 
 ghost use Rattle.std.specs.Prelude.{◌≡◌, IfOk, OnErr, OnOk, slice_get};
 ghost use Rattle.world_spec.specs.Names.{made_named};

@@ -19,7 +19,7 @@ all_added {A} says xs (w ∷ ws) = by (says w) (λ ys. all_added says ys ws)
     by None more = more xs
     by (Some x) more = more (xs ++ x ∷ []) ∙ append_assoc xs (x ∷ []) (filter_map says ws)
 
--- likewise after one that may be there
+-- what words draw, after one drawn id that may be there
 pub words_added : {W : Type 0} → (says : W → Option Drawn) (o : Option Drawn) (words : List W) → all_some says (with_some [] o) words ≡ drawn_list o ++ filter_map says words
 words_added says None words = all_added says [] words
 words_added says (Some d) words = all_added says (d ∷ []) words

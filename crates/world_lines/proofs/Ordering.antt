@@ -67,7 +67,7 @@ past_get [] rows (suc n) other = refl
 past_get (p ∷ past) rows zero other = refl
 past_get (p ∷ past) rows (suc n) other = past_get past rows n (λ e. other (ap suc e))
 
--- those of the open one
+-- the entries of the open epoch
 pub rows_open : (past : List (List OrderedRow)) (rows found : List OrderedRow) (o : Orders) (epoch n : ℕ) → orders_of past rows ≡ o → n ≡ length past → epoch ≡ n → found ≡ rows
     → entries_of found ≡ entries_at o.sequences epoch
 rows_open past rows found o epoch n view many same is =
@@ -75,7 +75,7 @@ rows_open past rows found o epoch n view many same is =
     ∙ ap (λ (k : ℕ). entries_at (orders_of past rows).sequences k) (sym (same ∙ many))
     ∙ ap (λ (x : Orders). entries_at x.sequences epoch) view
 
--- and of another
+-- the entries of an epoch other than the open one
 pub rows_past : (past : List (List OrderedRow)) (rows : List OrderedRow) (o : Orders) (epoch n : ℕ) (found : Option (List OrderedRow)) → orders_of past rows ≡ o → n ≡ length past → (epoch ≡ n → ⊥) → found ≡ slice_get past epoch
     → list_or_none (option_map entries_of found) ≡ entries_at o.sequences epoch
 rows_past past rows o epoch n found view many other is =

@@ -1,4 +1,4 @@
--- Addresses that are kept by the names of their users.
+-- Addresses that are kept under the names of their users, so that a name is hashed once.
 use Rattle.std.specs.Prelude.{◌≡◌, ℕ, List, Some}
 use Rattle.digest_core.specs.declared.Digest.{Digest}
 use Rattle.digest_core.specs.Tagged.{address_of_name}

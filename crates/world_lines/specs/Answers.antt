@@ -1,4 +1,4 @@
--- The answers of a member, as the definitions have them.
+-- The answers of a member in the shape that the definitions use: without seals.
 use Rattle.std.specs.Prelude.{ℕ, Bool, true, false, [], Result, Ok, Err}
 use Rattle.digest_core.specs.declared.Digest.{Digest}
 use Rattle.chain_messages.specs.declared.messages.Sealed.{Sealed as SealedStatement}
@@ -14,7 +14,7 @@ use Rattle.world_spec.specs.Names.{tx_name}
 use Rattle.cert_rules.specs.declared.collecting.Collected.{Collected as Given}
 use Rattle.cert_rules.specs.declared.collecting.Collected.TheVariants as given
 
--- a vote, by the statement that is sealed
+-- a vote without its seal: its statement, and whether it is fresh
 abbrev pub voted_as : Sealed → Voted
 voted_as v = record { statement = v.sealed.statement; fresh = v.fresh }
 
@@ -22,7 +22,7 @@ abbrev pub vote_as : Result Sealed VoteRefusal → Result Voted VoteRefusal
 vote_as (Ok v) = Ok (voted_as v)
 vote_as (Err refusal) = Err refusal
 
--- an End or an acknowledgement, by the statement that is sealed
+-- an End or an acknowledgement without its seal: its statement
 abbrev pub stated_as : {E : Type 0} → Result SealedStatement E → Result Statement E
 stated_as (Ok sealed) = Ok sealed.statement
 stated_as (Err refusal) = Err refusal
@@ -31,11 +31,11 @@ stated_as (Err refusal) = Err refusal
 abbrev pub member_in : ℕ → Member
 member_in epoch = record (fresh []) { epoch = epoch }
 
--- the line of a reverted transaction
+-- the report's line for a transaction that a turn reverted
 abbrev pub reverted_line : World → Digest → Line
 reverted_line w tx = line.Reverted (tx_name w tx)
 
--- all members agree
+-- whether collecting found that the members have the stake, and all say the same
 abbrev pub is_whole : Given → Bool
 is_whole (given.Lacks m) = false
 is_whole (given.Short weight total) = false

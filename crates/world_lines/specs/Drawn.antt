@@ -12,7 +12,7 @@ use Rattle.world_lines.specs.declared.drawn.LineIds.{LineIds}
 abbrev pub row_as : Digest → ℕ → DrawnRow
 row_as tx number = record { id = record { 0 = created_id_of tx number }; tx = tx; number = number }
 
--- the id of a word, as its row has it, and as the definition has it
+-- what a word like `T.3` names: as a row of the table, and as the definition has it
 abbrev pub word_row : DrawnWord → DrawnRow
 word_row w = row_as w.tx w.number
 
@@ -23,6 +23,6 @@ word_drawn w = drawn_as w.tx w.number
 abbrev pub line_rows : LineIds → List DrawnRow
 line_rows l = map word_row l.words.items ++ map (row_as l.tx) (numbers_below l.count)
 
--- those of more lines, after what is there
+-- these rows, followed by the rows of these lines
 abbrev pub all_rows : List DrawnRow → List LineIds → List DrawnRow
 all_rows rows lines = fold (λ done l. done ++ line_rows l) rows lines

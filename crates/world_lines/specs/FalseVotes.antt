@@ -9,7 +9,7 @@ use Rattle.world_spec.specs.Step.{no_origins, origin_word, origins_or}
 use Rattle.world_spec.specs.Known.{Known, world_with}
 use Rattle.world_lines.specs.SaidVotes.{first_vote}
 
--- one origin more, none, for an input that is an object
+-- the origins with one `None` more if the input is an object; unchanged for any other input
 abbrev pub with_none : List (Option Digest) → Input → List (Option Digest)
 with_none origins input = if is_object input then origins ++ None ∷ [] else origins
 

@@ -6,7 +6,7 @@ use Rattle.world_spec.specs.World.{Made, Said, list_or_none}
 use Rattle.world_spec.specs.Step.{vote_statement}
 use Rattle.world_lines.specs.SaidVotes.{vote_by}
 
--- the bytes that the voters seal
+-- the bytes that each voter for these origins of a transaction seals: the encoding of the vote's statement
 abbrev pub vote_bytes : Made → List (Option Digest) → List ℕ
 vote_bytes t origins = messages.statement.spell (vote_statement t.signed.tx t.digest origins)
 

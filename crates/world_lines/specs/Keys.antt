@@ -26,7 +26,8 @@ vote_key_eq a b = (a.member == b.member) && (a.epoch == b.epoch) && digest_eq a.
 abbrev pub ack_key_eq : AckKey → AckKey → Bool
 ack_key_eq a b = (a.member == b.member) && (a.epoch == b.epoch) && digest_eq a.tx b.tx
 
--- the key of a vote, of an End, and of an acknowledgement
+-- the key under which a member's statement stands in the table of votes, of Ends (the member alone), and of
+-- acknowledgements; none if it is no such statement
 abbrev pub key_of_vote : ℕ → Statement → Option VoteKey
 key_of_vote m (statement.Vote epoch tx origins) = Some (vote_key m epoch tx)
 key_of_vote m (statement.End epoch) = None
@@ -73,7 +74,7 @@ pub record Notes (before : LastPlaces) (m : ℕ) (st : Statement) (place : ℕ) 
   pub ends : now.ends.entries ≡ with_place nat_eq before.ends.entries (key_of_end m st) place
   pub acks : now.acks.entries ≡ with_place ack_key_eq before.acks.entries (key_of_ack m st) place
 
--- nothing was noted
+-- the three tables are as before
 pub record KeepsPlaces (before now : LastPlaces) : Type 0 where
   pub votes : now.votes.entries ≡ before.votes.entries
   pub ends : now.ends.entries ≡ before.ends.entries

@@ -1,4 +1,4 @@
--- What the rows of a directory stand for.
+-- What the rows of a directory stand for in the definition's `Known`.
 use Rattle.std.specs.Prelude.{List, map}
 use Rattle.world_spec.specs.Setting.{Thing, User}
 use Rattle.world_spec.specs.World.{Made, Drawn}

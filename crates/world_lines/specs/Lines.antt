@@ -1,4 +1,4 @@
--- The words of a line that is lent.
+-- The words of a `tx` line, read through the borrows of the source's `TxLine`.
 use Rattle.world_spec.specs.Making.{TxLine}
 use Rattle.world_lines.specs.declared.line.TxLine.{TxLine as Lent}
 

@@ -4,7 +4,8 @@ use Rattle.world_lines.specs.declared.rows.MadeTx.{MadeTx}
 use Rattle.world_lines.specs.declared.making.MakeRefusal.{MakeRefusal}
 use Rattle.world_lines.specs.declared.making.MakeRefusal.TheVariants as refusal
 
--- one is made if no list is too long, and said to be too long if one is
+-- the answer of `make`, where `long` says whether a list of the transaction is too long to be encoded: `Ok` only if
+-- none is, `TooLong` only if one is
 abbrev pub Says : Result MadeTx MakeRefusal → Bool → Type 0
 Says (Ok t) long = long ≡ false
 Says (Err refusal.TooLong) long = long ≡ true

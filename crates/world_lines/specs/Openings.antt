@@ -10,7 +10,7 @@ use Rattle.schedule_text.specs.declared.words.Setup.{Setup}
 use Rattle.schedule_text.specs.declared.words.Setup.TheVariants as line
 use Rattle.world_spec.specs.Setting.{owned_thing, shared_thing}
 
--- one more stake, if the line makes a member
+-- the stakes, with that of this line at the end if it makes a member
 abbrev pub with_stake : List ℕ → Setup → List ℕ
 with_stake stakes (line.Member stake honest) = stakes ++ stake ∷ []
 with_stake stakes (line.Coin name who balance) = stakes
@@ -18,7 +18,7 @@ with_stake stakes (line.Counter name value) = stakes
 with_stake stakes (line.Cap name who currency) = stakes
 with_stake stakes (line.Writers n) = stakes
 
--- one more flag, if the line makes a member
+-- the flags, with that of this line at the end if it makes a member (true: honest)
 abbrev pub with_flag : List Bool → Setup → List Bool
 with_flag flags (line.Member stake honest) = flags ++ honest ∷ []
 with_flag flags (line.Coin name who balance) = flags
@@ -26,7 +26,7 @@ with_flag flags (line.Counter name value) = flags
 with_flag flags (line.Cap name who currency) = flags
 with_flag flags (line.Writers n) = flags
 
--- one more object, if the line makes one; its number is how many there are
+-- the objects, with that of this line at the end if it makes one; its number is how many there were
 abbrev pub with_object : List Object → Setup → List Object
 with_object objects (line.Member stake honest) = objects
 with_object objects (line.Coin name who balance) = objects ++ owned_thing (length objects) who (content.Coin 0 balance) ∷ []

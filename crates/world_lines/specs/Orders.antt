@@ -32,7 +32,7 @@ no_orders = record { sequences = [] ∷ []; epoch = 0 }
 abbrev pub open_in : Orders → List Entry
 open_in o = entries_at o.sequences o.epoch
 
--- one entry more at their end
+-- the sequences with this entry at the end of the open epoch's
 abbrev pub with_entry : Orders → Entry → Orders
 with_entry o e = record o { sequences = slice_set o.sequences o.epoch (open_in o ++ e ∷ []) }
 
@@ -44,7 +44,7 @@ risen_orders o = record { sequences = o.sequences ++ [] ∷ []; epoch = o.epoch 
 abbrev pub spelled_entry : Entry → List ℕ
 spelled_entry e = messages.entry.spell e
 
--- the open epoch has ended if a member that sees its entries sees its end
+-- whether the open epoch has ended: a member that sees all its entries sees its end
 abbrev pub has_ended_by : Rules → Orders → Bool
 has_ended_by r o = (seen r [] o.epoch (map spelled_entry (open_in o))).ended
 
@@ -54,13 +54,13 @@ has_ended_by r o = (seen r [] o.epoch (map spelled_entry (open_in o))).ended
 abbrev pub sealed_end_by : (Signer → List ℕ → Digest) → ℕ → ℕ → Entry
 sealed_end_by seal m epoch = entry.End (record { member = m; statement = statement.End epoch; seal = seal (signers.Member m) (messages.statement.spell (statement.End epoch)) })
 
--- another epoch opens if the open one has ended
+-- the sequences after a check for the end of the epoch: if the open one has ended, another opens
 abbrev pub risen_by : Rules → Orders → Orders
 risen_by r o = if has_ended_by r o then risen_orders o else o
 
 -- ---- rows
 
--- what a row's view shows
+-- the entry of a row, from what its contracts keep of it
 abbrev pub entry_in : EntryView → Entry
 entry_in (views.Cert c) = entry.Cert c.value
 entry_in (views.Whole e) = e.value
@@ -71,7 +71,7 @@ row_entry r = entry_in r.entry
 abbrev pub entries_of : List OrderedRow → List Entry
 entries_of rows = map row_entry rows
 
--- the bytes of a row are its entry's, and fit into a record
+-- a row is sound: its bytes are its entry's encoding, and short enough for a record
 pub record IsSpelled (r : OrderedRow) : Type 0 where
   pub spelled : r.bytes ≡ messages.entry.spell (row_entry r)
   pub short : length r.bytes < length_limit
@@ -82,7 +82,8 @@ AreSpelled rows = Each IsSpelled rows
 abbrev pub row_bytes : OrderedRow → List ℕ
 row_bytes r = r.bytes
 
--- these are the Ends of an epoch among the rows: each test holds of one of them if it holds of one of those
+-- these are the Ends of an epoch among the rows, without repetitions: as sets the two are equal (a test holds of one
+-- of the first exactly if it holds of one of the others)
 pub record AreEnds (epoch : ℕ) (rows : List OrderedRow) (ends : List MemberSeal) : Type 0 where
   pub same : (test : MemberSeal → Bool) → list_any test ends ≡ list_any test (ends_read epoch (map row_bytes rows))
 

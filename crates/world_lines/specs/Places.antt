@@ -8,6 +8,6 @@ abbrev pub last_place : {T : Type 0} → (T → Bool) → List T → Option ℕ
 last_place test [] = None
 last_place test (x ∷ xs) = first_some (option_map suc (last_place test xs) ∷ where_true (test x) 0 ∷ [])
 
--- under each key stands the place of the last row that is of it
+-- under each key stands the place of the last row of this key, and nothing if there is no such row
 abbrev pub LastPlaced : {K L T : Type 0} → (K → L → Bool) → (K → T → Bool) → List T → List (L × ℕ) → Type 0
 LastPlaced {K} same is_of rows places = (k : K) → lookup (same k) places ≡ last_place (is_of k) rows

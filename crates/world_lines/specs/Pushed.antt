@@ -2,11 +2,12 @@
 use Rattle.std.specs.Prelude.{List, [], ◌∷◌, ◌++◌, fold}
 use Rattle.protocol_spec.specs.Chain.Words.{IsFront}
 
--- what each item gives, after what is there
+-- this list, followed by what `f` gives for each item
 abbrev pub each_pushed : {A B : Type 0} → (A → B) → List B → List A → List B
 each_pushed f done xs = fold (λ ys x. ys ++ f x ∷ []) done xs
 
--- a list that was to grow to the whole may have stopped on the way: it goes on from the old one, and the whole from it
+-- a list that was to grow from `old` to `whole` and may have stopped on the way: `old` is a front of it, and it is a
+-- front of `whole`
 pub record GrowsToward {A : Type 0} (old new whole : List A) : Type 0 where
   pub kept : IsFront old new
   pub ahead : IsFront new whole

@@ -1,4 +1,4 @@
--- What the rows of the books stand for.
+-- What the rows of the book of statements and of the book of certificates stand for in the definitions.
 use Rattle.std.specs.Prelude.{ℕ, Bool, List, map, Option, Some, None, bytes_eq}
 use Rattle.digest_core.specs.declared.Digest.{Digest}
 use Rattle.chain_messages.specs.declared.messages.Certificate.{Certificate}
@@ -21,7 +21,7 @@ said_with m st seal = record { member = m; statement = st; seal = seal }
 abbrev pub said_list : List SaidRow → List Said
 said_list rows = map said_as rows
 
--- the origins of a vote, for any transaction
+-- the origins that a statement names if it is a vote, whatever its transaction
 abbrev pub origins_in : Statement → Option (List (Option Digest))
 origins_in (statement.Vote epoch tx origins) = Some origins
 origins_in (statement.End epoch) = None
@@ -34,7 +34,7 @@ row_origins r = origins_in r.statement
 abbrev pub row_end : SaidRow → Option ℕ
 row_end r = end_in r.statement
 
--- the effects of an acknowledgement, of any transaction
+-- the effects digest that a statement names if it is an acknowledgement, whatever its transaction
 abbrev pub effects_in : Statement → Option Digest
 effects_in (statement.Vote epoch tx origins) = None
 effects_in (statement.End epoch) = None

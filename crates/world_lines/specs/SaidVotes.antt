@@ -11,7 +11,7 @@ use Rattle.world_spec.specs.Step.{last_said, vote_in}
 abbrev pub vote_by : List Said → ℕ → Digest → ℕ → Option (List (Option Digest))
 vote_by said epoch tx m = last_said (vote_in epoch tx) m said
 
--- likewise, if the member is honest
+-- the origins of a member's last vote, if its flag says that it is honest
 abbrev pub vote_if : List Said → ℕ → Digest → (ℕ × Bool) → Option (List (Option Digest))
 vote_if said epoch tx flag = if flag.1 then vote_by said epoch tx flag.0 else None
 

@@ -9,7 +9,7 @@ use Rattle.world_spec.specs.Known.{Known, setting_with, world_with}
 use Rattle.world_lines.specs.declared.shown.Rank.{Rank}
 use Rattle.world_lines.specs.declared.shown.Place.{Place}
 
--- a rank as the definition has it
+-- a rank as the nested pairs of the definition
 abbrev pub rank_as : Rank → (ℕ × ℕ) × ℕ
 rank_as r = ((r.group, r.place), r.number)
 
@@ -20,7 +20,8 @@ rank_cmp a b = ordering_then (ordering_then (nat_cmp a.group b.group) (nat_cmp a
 abbrev pub place_cmp : Place → Place → Ordering
 place_cmp a b = ordering_then (rank_cmp a.rank b.rank) (nat_cmp a.index b.index)
 
--- the place of the next object
+-- the place of the next object: its rank, and how many objects came before it, so that objects of one rank stay in
+-- order
 abbrev pub place_of : Known → List (Place × Object) → Object → Place
 place_of k shown o =
     let r = rank (setting_with k) (world_with k) o in

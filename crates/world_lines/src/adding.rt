@@ -1,4 +1,4 @@
-//! The names that a line gives.
+//! Adding a `tx` line to the directory: its transaction, the users that it names, and the ids that it names or draws.
 
 ghost use Rattle.std.specs.Prelude.{◌≡◌, ◌∷◌, ◌++◌, [], IfOk, OnErr, OnOk, map, option_map};
 ghost use Rattle.world_spec.specs.Setting.{user_of};
@@ -20,7 +20,7 @@ use schedule_text::{InputWord, ObjWord};
 use std::alloc::Global;
 use wire_bcs::{OutOfMemory, Seq};
 
-/// A user of this name.
+/// The row of a user of this name, with the address that is the hash of the name.
 pub(crate) fn user_row(
     alloc: Global,
     addresses: &mut Addresses,
@@ -113,7 +113,8 @@ fn draws(commands: &[Command]) -> Result<usize, OutOfMemory>
 }
 
 impl Directory {
-    /// What a word draws, if it names a created object. Takes no memory.
+    /// The created object that a word names, by transaction and number; none if the word names a set-up object. Takes
+    /// no memory.
     fn drawn_word(&self, word: &ObjWord) -> Option<DrawnWord>
         ensures { option_map word_drawn result ≡ drawn_word (world_with self.now) word.now }
     {
@@ -126,7 +127,8 @@ impl Directory {
         }
     }
 
-    /// What an input's word draws, if it names a created object. Takes no memory.
+    /// The created object that an input's word names, by transaction and number; none if it names no such object.
+    /// Takes no memory.
     fn drawn_input(&self, word: &InputWord) -> Option<DrawnWord>
         ensures { option_map word_drawn result ≡ drawn_input (world_with self.now) word.now }
     {
@@ -138,7 +140,7 @@ impl Directory {
         }
     }
 
-    /// What the words of a line draw: of its gas coin and its inputs.
+    /// The created objects that the words of a line name: its gas coin, and its inputs.
     #[tactic(auto, using(crate::proofs::Gathered::words_added))]
     fn drawn_words(&self, line: &TxLine<'_>) -> Result<Vec<DrawnWord>, OutOfMemory>
         ensures { IfOk result (λ words. map word_drawn words.items ≡ drawn_words self.now (line_of line.now).gas (line_of line.now).inputs) }

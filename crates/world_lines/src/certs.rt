@@ -1,4 +1,4 @@
-//! What collecting votes or acknowledgements gives.
+//! The lines `cert` and `final`, for what collecting votes or acknowledgements gave.
 
 ghost use Rattle.std.specs.Prelude.{◌≡◌, ◌∷◌, [], IfOk, map};
 ghost use Rattle.report_text.specs.declared.lines.Line.TheVariants as line;
@@ -28,7 +28,7 @@ fn numbers(alloc: Global, members: &[u32]) -> Result<Seq<u64>, OutOfMemory>
     Ok(Seq::from_vec(numbers))
 }
 
-/// The ending for what collecting the votes of these members gave.
+/// The ending of a `cert` line for what collecting the votes of these members gave.
 fn cert_text(alloc: Global, members: &[u32], collected: &Collected) -> Result<CertText, OutOfMemory>
     ensures { IfOk result (λ text. text ≡ cert_collected members.now (collected_as collected.now)) }
 {
@@ -51,7 +51,7 @@ fn cert_text(alloc: Global, members: &[u32], collected: &Collected) -> Result<Ce
     }
 }
 
-/// The ending for what collecting the acknowledgements of these members gave.
+/// The ending of a `final` line for what collecting the acknowledgements of these members gave.
 pub fn final_text(
     alloc: Global,
     members: &[u32],
@@ -78,7 +78,7 @@ pub fn final_text(
     }
 }
 
-/// Whether all agree. Takes no memory.
+/// Whether collecting found that the members have the stake, and all say the same. Takes no memory.
 pub fn is_whole(collected: &Collected) -> bool
     ensures { result ≡ is_whole collected.now }
 {

@@ -1,4 +1,4 @@
-//! What the last words of members on something give: their votes for a transaction, or their acknowledgements of one.
+//! Collecting the last votes of members for a transaction, or their last acknowledgements of one.
 
 ghost use Rattle.std.specs.Prelude.{◌≡◌};
 ghost use Rattle.chain_types.specs.Equal.{digest_eq};
@@ -13,7 +13,7 @@ use digest_core::Digest;
 use quorum_core::Committee;
 use wire_bcs::Seq;
 
-/// The last votes for a transaction of an epoch.
+/// The book's last votes for this transaction of this epoch, as a source for collecting.
 #[derive(Clone, Copy)]
 struct Votes<'a> {
     book: &'a SaidBook,
@@ -39,7 +39,7 @@ impl LastWords for Votes<'_> {
     }
 }
 
-/// The last acknowledgements of a transaction in an epoch.
+/// The book's last acknowledgements of this transaction in this epoch, as a source for collecting.
 #[derive(Clone, Copy)]
 struct Acks<'a> {
     book: &'a SaidBook,

@@ -1,4 +1,4 @@
-//! The commands of a line.
+//! The commands of a `tx` line, from words to the commands of a transaction.
 
 ghost use Rattle.std.specs.Prelude.{◌≡◌, IfOk, OnOk, map, slice_get};
 ghost use Rattle.world_spec.specs.Making.{argument_of, command_of, first_word, kind_or, kinds, last_word, words_before, words_behind};
@@ -57,7 +57,7 @@ fn words_behind(alloc: Global, words: &[ArgWord]) -> Result<Seq<Argument>, OutOf
     }
 }
 
-/// The argument of the last word; this one if there is none. Takes no memory.
+/// The argument of the last word; `before` if there is no word. Takes no memory.
 fn last_after(before: Argument, words: &[ArgWord]) -> Argument
     ensures { result ≡ last_after before words.now }
 {
@@ -87,7 +87,7 @@ fn words_before(alloc: Global, words: &[ArgWord]) -> Result<Seq<Argument>, OutOf
     arguments_of(alloc, &words[..words.len() - 1])
 }
 
-/// The kind of this number; a coin if none has it. Takes no memory.
+/// The kind of object with this number; `Coin` if no kind has it. Takes no memory.
 fn kind_of(number: u8) -> Kind
     ensures { result ≡ kind_or (slice_get kinds number) }
 {

@@ -1,4 +1,4 @@
-//! The directory, and what it is asked.
+//! The [`Directory`]: what stands under the names of a run, and its look-ups.
 
 ghost use Rattle.std.specs.Prelude.{◌≡◌, ◌∷◌, ◌++◌, [], IfOk, OnOk, bytes_eq, find, fold, length, option_copied, option_map};
 ghost use Rattle.digest_core.specs.Tagged.{address_of_name};
@@ -200,17 +200,17 @@ impl Directory {
         Ok(address)
     }
 
-    /// Lets the ids that lines draw wait until one is looked up, up to the first line with a word that names one, or
-    /// [`Directory::settle`]. A look-up by an id that is no set-up thing's then costs the making of all that wait. Takes
-    /// no memory.
+    /// Puts off the hashing of the ids that lines draw until one is looked up; this ends with the first line whose
+    /// words name a created object, or with [`Directory::settle`]. While ids wait, a look-up by an id that is no
+    /// set-up thing's hashes all of them. Takes no memory.
     pub fn wait(&mut self)
         ensures { self.new ≡ self.old }
     {
         self.drawn.wait();
     }
 
-    /// Makes the ids that wait, and lets none wait from now on. Where memory is refused they go on waiting, until the
-    /// next line.
+    /// Hashes all ids that wait, and puts none off from now on. If memory is refused they go on waiting, and the next
+    /// line tries again.
     pub fn settle(&mut self)
         ensures { self.new ≡ self.old }
     {

@@ -1,4 +1,4 @@
-//! The ids that lines name or draw. They may wait: then the id of a creation number is made when one is looked up.
+//! The ids that lines name or draw. An id costs a hash, so ids may wait: then they are made when one is looked up.
 
 ghost use Rattle.std.specs.Prelude.{◌≡◌, ◌<◌, ◌∷◌, ◌++◌, [], IfOk, OnOk, find, map};
 ghost use Rattle.chain_types.specs.Equal.{digest_eq};
@@ -14,7 +14,7 @@ use std::marker::Model;
 use tables::Table;
 use wire_bcs::OutOfMemory;
 
-/// A word that names what a transaction creates under a number.
+/// A word like `T.3`: the object that a transaction creates under a number.
 #[derive(Clone, Copy, Debug)]
 pub(crate) struct DrawnWord {
     pub(crate) tx: Digest,
@@ -50,7 +50,7 @@ impl Model for DrawnIds {
     ghost view = { λ d. record { rows = all_rows d.made.rows d.waiting.items; room = vec_capacity d.waiting - vec_len d.waiting } };
 }
 
-/// Adds the id of a creation number.
+/// Adds the row of a transaction's creation number, with its id.
 fn add_row(rows: &mut Vec<DrawnRow>, tx: &Digest, number: u64) -> Result<(), OutOfMemory>
     ensures { OnOk result (rows.new.items ≡ rows.old.items ++ row_as tx.now number ∷ []) }
 {
@@ -88,7 +88,7 @@ fn add_line(rows: &mut Vec<DrawnRow>, ids: &LineIds) -> Result<(), OutOfMemory>
     add_numbers(rows, &ids.tx, ids.count)
 }
 
-/// Adds the ids of lines.
+/// Adds the rows of lines, in their order.
 fn add_lines(rows: &mut Vec<DrawnRow>, lines: &[LineIds]) -> Result<(), OutOfMemory>
     ensures { OnOk result (rows.new.items ≡ all_rows rows.old.items lines.now) }
 {
@@ -98,7 +98,7 @@ fn add_lines(rows: &mut Vec<DrawnRow>, lines: &[LineIds]) -> Result<(), OutOfMem
     Ok(())
 }
 
-/// The ids of lines.
+/// The rows of lines, in their order.
 fn rows_of(alloc: Global, lines: &[LineIds]) -> Result<Vec<DrawnRow>, OutOfMemory>
     ensures { IfOk result (λ rows. rows.items ≡ all_rows [] lines.now) }
 {
@@ -107,7 +107,7 @@ fn rows_of(alloc: Global, lines: &[LineIds]) -> Result<Vec<DrawnRow>, OutOfMemor
     Ok(rows)
 }
 
-/// The first row of an id among those of lines, none of which is made.
+/// The first row of an id among those of waiting lines; makes all their rows, and throws them away afterwards.
 fn find_among(
     alloc: Global,
     lines: &[LineIds],
@@ -168,7 +168,7 @@ impl DrawnIds {
         }
     }
 
-    /// Makes the ids that wait. A refusal changes nothing.
+    /// Makes the rows of the lines that wait, which then wait no longer. A refusal changes nothing.
     #[tactic(auto, using(crate::proofs::DrawnRows::all_behind))]
     fn make(&mut self) -> Result<(), OutOfMemory>
         ensures { self.new.rows ≡ self.old.rows }

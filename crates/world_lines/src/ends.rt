@@ -1,4 +1,4 @@
-//! The Ends of an epoch.
+//! The Ends of an epoch among the entries of its sequence, and whether they end it.
 
 ghost use Rattle.std.specs.Prelude.{◌≡◌, ◌<◌, IfOk, map};
 ghost use Rattle.std.specs.List.{filter, list_any};
@@ -14,7 +14,7 @@ use quorum_core::{Committee, Sealer, Signer};
 use std::alloc::Global;
 use wire_bcs::{OutOfMemory, Seq, Unread};
 
-/// A member's seal on its End of this epoch, if its statement is that. Takes no memory.
+/// The member and seal of a sealed End of this epoch; none for any other statement. Takes no memory.
 fn end_stated(epoch: u64, said: &Sealed) -> Option<MemberSeal>
     ensures { result ≡ end_stated epoch said.now said.now.statement }
 {
@@ -32,7 +32,7 @@ fn end_stated(epoch: u64, said: &Sealed) -> Option<MemberSeal>
     }
 }
 
-/// Likewise for an entry. Takes no memory.
+/// The member and seal of an entry that is an End of this epoch; none for any other entry. Takes no memory.
 fn end_in(epoch: u64, entry: &Entry) -> Option<MemberSeal>
     ensures { result ≡ end_in epoch entry.now }
 {
@@ -42,7 +42,8 @@ fn end_in(epoch: u64, entry: &Entry) -> Option<MemberSeal>
     }
 }
 
-/// Likewise for the bytes of an entry, as a member reads them.
+/// The member and seal of an End of this epoch in the bytes of an entry; none if they decode to anything else, or not
+/// at all.
 #[tactic(auto, unfolding(crate::specs::Ends::end_read, protocol_spec::specs::Chain::Certificates::read_entry))]
 fn end_read(alloc: Global, epoch: u64, bytes: &[u8]) -> Result<Option<MemberSeal>, OutOfMemory>
     ensures { IfOk result (λ end. end ≡ end_read epoch bytes.now) }
@@ -54,7 +55,7 @@ fn end_read(alloc: Global, epoch: u64, bytes: &[u8]) -> Result<Option<MemberSeal
     }
 }
 
-/// The End of this epoch that an entry is to a member that reads its bytes; only the bytes of an End are read here.
+/// The End of this epoch that a member reads in the bytes of this entry, if any. Only the bytes of an End are decoded.
 #[tactic(auto, using(crate::proofs::EndTexts::no_end_in_cert, crate::proofs::EndTexts::no_end_in_mark))]
 pub(crate) fn end_of(
     alloc: Global,
@@ -71,7 +72,7 @@ pub(crate) fn end_of(
     }
 }
 
-/// Whether an End is among these. Takes no memory.
+/// Whether this member's End with this seal is in the list. Takes no memory.
 fn is_kept(ends: &[MemberSeal], end: &MemberSeal) -> bool
     ensures { result ≡ list_any (is_same end.now) ends.now }
 {
@@ -79,7 +80,7 @@ fn is_kept(ends: &[MemberSeal], end: &MemberSeal) -> bool
         .any(|kept| end.member == kept.member && end.seal == kept.seal)
 }
 
-/// Keeps an End, if there is one and it is not kept already; there is room.
+/// Adds an End, if there is one and it is not in the list yet; the list has room for one more.
 pub(crate) fn keep_end(ends: &mut Vec<MemberSeal>, end: Option<MemberSeal>)
     requires { vec_len ends.old < vec_capacity ends.old }
     ensures { ends.new.items ≡ with_end ends.old.items end }
@@ -93,7 +94,7 @@ pub(crate) fn keep_end(ends: &mut Vec<MemberSeal>, end: Option<MemberSeal>)
     push_in_room(ends, end);
 }
 
-/// The members of accepted Ends, if these bytes are what an End says.
+/// The members of the Ends whose seal over these bytes is accepted; the bytes are the encoded statement of an End.
 fn ended_by<S: Sealer>(
     alloc: Global,
     sealer: &S,

@@ -1,4 +1,4 @@
-//! What a member makes of the entries of its sequence.
+//! The `see` lines: what a member made of the entries of its sequence.
 
 ghost use Rattle.std.specs.Prelude.{◌≡◌, ◌++◌, [], Err, IfOk, Ok, OnOk};
 ghost use Rattle.world_spec.specs.Report.{entry_lines, ignored_text, what_text};
@@ -13,7 +13,7 @@ use quorum_core::Committee;
 use report_text::{EntryText, Line, SeeText};
 use wire_bcs::{OutOfMemory, Seq};
 
-/// The ending for an entry that is ignored. Takes no memory.
+/// The ending of the line for an entry that is ignored. Takes no memory.
 fn ignored_text(cause: Ignore) -> EntryText
     ensures { result ≡ ignored_text cause }
 {
@@ -27,7 +27,8 @@ fn ignored_text(cause: Ignore) -> EntryText
     }
 }
 
-/// The ending for what a member made of an entry; the weight of Ends is measured against the stake of this committee.
+/// The ending of the line for what a member made of an entry; the weight of Ends is shown with the stake of this
+/// committee.
 pub(crate) fn what_text(
     directory: &Directory,
     committee: &Committee,

@@ -1,4 +1,4 @@
-//! What a member answers to the calls by which an epoch ends.
+//! The lines `close`, `end`, `ack` and `turn`, for what a member answered.
 
 ghost use Rattle.std.specs.Prelude.{◌≡◌, ◌∷◌, [], Err, IfOk, Ok, OnOk};
 ghost use Rattle.world_spec.specs.Report.{ack_answered, close_answered, end_answered, turn_answered};
@@ -15,7 +15,7 @@ use protocol_spec::{AckRefusal, CloseRefusal, EndRefusal, TurnRefusal};
 use report_text::{AckText, CloseText, EndText, Line, TurnText};
 use wire_bcs::{OutOfMemory, Seq};
 
-/// The ending for a member's answer to `close`.
+/// The ending of a `close` line for the member's answer.
 pub fn close_text(
     directory: &Directory,
     answer: &Result<bool, CloseRefusal>,
@@ -36,7 +36,7 @@ pub fn close_text(
     })
 }
 
-/// The ending for a member's answer to `end`.
+/// The ending of an `end` line for the member's answer.
 pub fn end_text(
     directory: &Directory,
     answer: &Result<Sealed, EndRefusal>,
@@ -57,7 +57,7 @@ pub fn end_text(
     })
 }
 
-/// The ending for a member's answer to `ack`.
+/// The ending of an `ack` line for the member's answer.
 pub fn ack_text(
     directory: &Directory,
     answer: &Result<Sealed, AckRefusal>,

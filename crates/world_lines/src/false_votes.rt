@@ -19,7 +19,7 @@ use report_text::Line;
 use std::alloc::Global;
 use wire_bcs::{OutOfMemory, Seq};
 
-/// Adds an origin, none, for an input that is an object.
+/// Adds `None` as the origin of an input that is an object; adds nothing for any other input.
 fn add_none(origins: &mut Seq<Option<Digest>>, input: &Input) -> Result<(), OutOfMemory>
     ensures { OnOk result (origins.new ≡ with_none origins.old input.now) }
 {
@@ -32,7 +32,7 @@ fn add_none(origins: &mut Seq<Option<Digest>>, input: &Input) -> Result<(), OutO
     }
 }
 
-/// Adds an origin, none, for each input that is an object.
+/// Adds `None` as the origin of each input that is an object.
 fn add_nones(origins: &mut Seq<Option<Digest>>, inputs: &[Input]) -> Result<(), OutOfMemory>
     ensures { OnOk result (origins.new ≡ fold with_none origins.old inputs.now) }
 {
@@ -42,7 +42,7 @@ fn add_nones(origins: &mut Seq<Option<Digest>>, inputs: &[Input]) -> Result<(), 
     Ok(())
 }
 
-/// No origin for each object of a transaction.
+/// Origins that are `None` for each object of a transaction: its gas coin, and its inputs that are objects.
 #[tactic(auto, using(crate::proofs::Origins::all_none))]
 fn no_origins(alloc: Global, tx: &Transaction) -> Result<Seq<Option<Digest>>, OutOfMemory>
     ensures { IfOk result (λ origins. origins ≡ no_origins tx.now) }

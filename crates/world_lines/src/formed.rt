@@ -70,7 +70,7 @@ impl Model for CertBook {
 }
 
 impl CertBook {
-    /// Nothing formed. Takes no memory.
+    /// A book without certificates. Takes no memory.
     pub fn new(alloc: Global) -> CertBook
         ensures { result ≡ [] }
     {

@@ -1,4 +1,4 @@
-//! The certificate of members that vote alike.
+//! Forming the certificate of members that vote for the same origins.
 
 ghost use Rattle.std.specs.Prelude.{◌≡◌, IfOk, map};
 ghost use Rattle.chain_messages.specs.Messages as codecs;

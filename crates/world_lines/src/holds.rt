@@ -1,4 +1,4 @@
-//! What a member answers to a certificate.
+//! The `send` lines: what a member answered to a certificate.
 
 ghost use Rattle.std.specs.Prelude.{◌≡◌, Err, IfOk};
 ghost use Rattle.world_spec.specs.Report.{bad_cert_text, hold_answered};
@@ -11,7 +11,7 @@ use protocol_spec::HoldRefusal;
 use report_text::SendText;
 use wire_bcs::OutOfMemory;
 
-/// The ending for a certificate that is not valid. Takes no memory.
+/// The ending of the line for a certificate that is not valid. Takes no memory.
 fn bad_cert_text(refusal: &CertRefusal) -> SendText
     ensures { result ≡ bad_cert_text refusal.now }
 {
@@ -31,7 +31,7 @@ fn bad_cert_text(refusal: &CertRefusal) -> SendText
     }
 }
 
-/// The ending for a refusal to hold a certificate.
+/// The ending of the line for a refusal to hold a certificate.
 fn refusal_text(directory: &Directory, refusal: &HoldRefusal) -> Result<SendText, OutOfMemory>
     ensures { IfOk result (λ text. text ≡ hold_answered (setting_with directory.now) (world_with directory.now) (Err refusal.now)) }
 {
@@ -60,7 +60,7 @@ fn refusal_text(directory: &Directory, refusal: &HoldRefusal) -> Result<SendText
     })
 }
 
-/// The ending for a member's answer to a certificate: held, or held before, or why not.
+/// The ending of the line for a member's answer to a certificate: held, or held before, or why not.
 pub fn hold_text(
     directory: &Directory,
     answer: &Result<bool, HoldRefusal>,

@@ -1,4 +1,4 @@
-//! The objects and inputs of a line.
+//! The gas coin and inputs of a `tx` line, from words to the inputs of a transaction.
 
 ghost use Rattle.std.specs.Prelude.{◌≡◌, Option, IfOk, OnOk, bytes_eq, find, map, true};
 ghost use Rattle.digest_core.specs.declared.Digest.{Digest as Sum};
@@ -15,7 +15,8 @@ use schedule_text::{InputWord, ObjWord, RefWord};
 use std::alloc::Global;
 use wire_bcs::{OutOfMemory, Seq};
 
-/// Who knows the digests of versions.
+/// A source of the digests of object versions, which a transaction's references need: the members of a committee, for
+/// one.
 pub trait HeldDigests {
     ghost held: { Self → Key → Option Sum };
 

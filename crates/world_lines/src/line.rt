@@ -1,8 +1,8 @@
-//! The words of a line.
+//! The words of a `tx` line, as [`make`](crate::make) takes them.
 
 use schedule_text::{CommandWord, InputWord, RefWord};
 
-/// The words of a `tx` line, lent.
+/// The words of a `tx` line, borrowed from the schedule.
 #[derive(Clone, Copy)]
 pub struct TxLine<'a> {
     pub name: &'a [u8],

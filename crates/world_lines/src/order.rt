@@ -1,4 +1,4 @@
-//! The book of sequences.
+//! The [`OrderBook`]: the sequences of a run, each entry encoded once.
 
 ghost use Rattle.std.specs.Prelude.{◌≡◌, ℕ, IfOk, OnErr, OnOk, Option, length, option_copied, option_map, slice_get};
 ghost use Rattle.wire_bcs.specs.Wrote.{Writes};
@@ -67,7 +67,8 @@ fn write_cert(writer: &mut Writer, cert: &Encoded<Certificate>) -> Result<(), Ou
     Ok(())
 }
 
-/// The entry of a certificate, which is not copied.
+/// The entry that orders a certificate, from the encoding that the certificate has already; the certificate is not
+/// copied.
 fn spelled_cert(alloc: Global, cert: &Encoded<Certificate>) -> Result<OrderedRow, OutOfMemory>
     ensures spelled { IfOk result IsSpelled }
     ensures entry { IfOk result (λ row. row_entry row ≡ entries.Cert cert.now) }
@@ -118,7 +119,7 @@ impl Model for OrderBook {
 }
 
 impl OrderBook {
-    /// Nothing ordered, in epoch 0. Takes no memory.
+    /// A book in epoch 0, with nothing ordered. Takes no memory.
     #[tactic(auto, using(crate::proofs::KeptEnds::no_ends))]
     pub fn new(alloc: Global) -> OrderBook
         ensures { result ≡ no_orders }
@@ -146,7 +147,7 @@ impl OrderBook {
         self.open.len()
     }
 
-    /// Puts an encoded entry after the others, and the End of the open epoch that it is, if it is one.
+    /// Puts an encoded entry after the others; `end` is its member and seal if it is an End of the open epoch.
     #[tactic(auto, using(crate::proofs::Ordering::pushed, crate::proofs::Ordering::spelled_push, crate::proofs::Ordering::keepable_all))]
     fn push_row(&mut self, row: OrderedRow, end: Option<MemberSeal>) -> Result<(), OutOfMemory>
         requires spelled { IsSpelled row }
@@ -174,7 +175,8 @@ impl OrderBook {
         self.push_row(row, end)
     }
 
-    /// Orders a certificate there, which is neither copied nor encoded again. A refusal changes nothing.
+    /// Orders a certificate at the end of the open epoch's sequence; it is neither copied nor encoded again. A refusal
+    /// changes nothing.
     #[tactic(auto, using(crate::proofs::Ordering::keepable_all))]
     pub fn push_cert(&mut self, cert: &Encoded<Certificate>) -> Result<(), OutOfMemory>
         ensures ok { OnOk result (self.new ≡ with_entry self.old (entries.Cert cert.now)) }
@@ -217,7 +219,7 @@ impl OrderBook {
         Ok(())
     }
 
-    /// The entries of an epoch; none of one that has not come.
+    /// The entries of an epoch, in order; the empty list for an epoch that has not opened yet.
     #[tactic(auto, using(crate::proofs::Ordering::rows_open, crate::proofs::Ordering::spelled_get))]
     fn rows(&self, epoch: u64) -> &[OrderedRow]
         ensures entries { entries_of result.now ≡ entries_at self.now.sequences epoch }

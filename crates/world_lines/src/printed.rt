@@ -1,4 +1,4 @@
-//! Names that are written out.
+//! The names of objects and versions that are composed of several parts, as a report prints them.
 
 ghost use Rattle.std.specs.Prelude.{◌≡◌, ◌∷◌, ◌++◌, IfOk, OnOk, decimal};
 ghost use Rattle.world_spec.specs.Names.{key_name, object_name, tx_name};

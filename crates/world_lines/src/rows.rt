@@ -39,7 +39,7 @@ pub(crate) struct DrawnRow {
 }
 
 impl DrawnRow {
-    /// What the transaction's creation number draws. Takes no memory.
+    /// The row of the object that the transaction creates under this number, with its id. Takes no memory.
     pub(crate) fn new(tx: &Digest, number: u64) -> DrawnRow
         ensures { result ≡ row_as tx.now number }
     {

@@ -1,4 +1,4 @@
-//! What a run executed and left, and the checkpoints that it completed.
+//! The `run` lines: what a run executed and left, and the checkpoints that it completed.
 
 ghost use Rattle.std.specs.Prelude.{◌≡◌, ◌∷◌, [], Err, IfOk, Ok, OnOk, map};
 ghost use Rattle.checkpoint_core.specs.declared.checkpoints.Item.{Item};

@@ -1,4 +1,4 @@
-//! The book of statements.
+//! The [`SaidBook`]: what members stated in a run, and the last statement of each kind.
 
 ghost use Rattle.std.specs.Prelude.{◌≡◌, ◌<◌, ◌++◌, ◌∷◌, [], OnErr, OnOk, map, option_and_then, option_copied, option_map, slice_get};
 ghost use Rattle.std.specs.Vec.{vec_capacity, vec_len};
@@ -143,7 +143,7 @@ impl Model for SaidBook {
 }
 
 impl SaidBook {
-    /// Nothing said. Takes no memory.
+    /// A book without statements. Takes no memory.
     pub fn new(alloc: Global) -> SaidBook
         ensures { result ≡ [] }
     {
@@ -199,7 +199,7 @@ impl SaidBook {
         self.add(member, statement, seal)
     }
 
-    /// A member states a checkpoint that it built. A refusal changes nothing.
+    /// Adds the statement of a member's checkpoint that it built. A refusal changes nothing.
     fn say_checkpoint(&mut self, member: u32, built: &HashedCheckpoint) -> Result<(), OutOfMemory>
         ensures ok { OnOk result (self.new ≡ self.old ++ said_by member (checkpoint_statement built.now) ∷ []) }
         ensures err { OnErr result (self.new ≡ self.old) }
@@ -213,7 +213,8 @@ impl SaidBook {
         self.say(member, statement)
     }
 
-    /// A member states the checkpoints that it built, in order. A refusal leaves the first of them stated, or none.
+    /// Adds the statements of the checkpoints that a member built, in order. After a refusal only the first few are
+    /// added, or none.
     #[tactic(auto, using(protocol_spec::proofs::ListLemmas::front_whole, crate::proofs::Growing::front_pushed, crate::proofs::Growing::some_added))]
     pub fn say_built(&mut self, member: u32, built: &[HashedCheckpoint]) -> Result<(), OutOfMemory>
         ensures ok { OnOk result (self.new ≡ self.old ++ map (said_by member) (map checkpoint_statement built.now)) }

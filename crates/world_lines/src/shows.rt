@@ -1,4 +1,4 @@
-//! The objects that a member shows.
+//! The `show` lines: the epoch and the live objects of a member.
 
 ghost use Rattle.std.specs.Prelude.{◌≡◌, ◌∷◌, [], IfOk, OnOk, map};
 ghost use Rattle.world_spec.specs.Report.{object_line, shown, shown_content, shown_owner};
@@ -11,7 +11,7 @@ use chain_types::{Content, Object, Owner};
 use report_text::{ContentText, Line, OwnerText, ShowText};
 use wire_bcs::{OutOfMemory, Seq};
 
-/// The owner of an object, as it is shown.
+/// The owner of an object, by name, as a report shows it.
 fn shown_owner(directory: &Directory, owner: &Owner) -> Result<OwnerText, OutOfMemory>
     ensures { IfOk result (λ text. text ≡ shown_owner (world_with directory.now) owner.now) }
 {
@@ -26,7 +26,7 @@ fn shown_owner(directory: &Directory, owner: &Owner) -> Result<OwnerText, OutOfM
     }
 }
 
-/// The content of an object, as it is shown.
+/// The content of an object as a report shows it.
 fn shown_content(directory: &Directory, content: &Content) -> Result<ContentText, OutOfMemory>
     ensures { IfOk result (λ text. text ≡ shown_content (setting_with directory.now) (world_with directory.now) content.now) }
 {

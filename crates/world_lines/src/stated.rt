@@ -1,4 +1,4 @@
-//! Where the last statements of members stand.
+//! The places of the members' last statements in the list of all statements, found by maps.
 
 ghost use Rattle.std.specs.Prelude.{◌≡◌, [], OnErr, OnOk, nat_eq};
 ghost use Rattle.std.specs.Map.{lookup};
@@ -28,7 +28,7 @@ pub(crate) struct AckKey {
     tx: Digest,
 }
 
-/// Puts a place under a key, if it takes that of an older one. A refusal changes nothing.
+/// Puts a place under a key, in the place of an older one. A refusal changes nothing.
 fn put<K: Hash + Eq + Drop>(
     places: &mut IndexMap<K, usize>,
     key: K,
@@ -74,7 +74,7 @@ pub(crate) struct LastPlaces {
 }
 
 impl LastPlaces {
-    /// Those of no statements. Takes no memory.
+    /// The tables for a list without statements. Takes no memory.
     pub(crate) fn new(alloc: Global) -> LastPlaces
         ensures { AreLast [] result }
     {

@@ -1,4 +1,4 @@
-//! What a member answers to a signed transaction.
+//! The `vote` lines: what a member answered to a signed transaction.
 
 ghost use Rattle.std.specs.Prelude.{◌≡◌, Err, IfOk};
 ghost use Rattle.world_spec.specs.Report.{vote_answered, voted_text};
@@ -12,7 +12,7 @@ use protocol_spec::{VoteRefusal, Voted};
 use report_text::VoteText;
 use wire_bcs::OutOfMemory;
 
-/// The ending for a vote, which is new or was given before.
+/// The ending of a `vote` line for a vote, which is new or was given before.
 fn voted_text(
     directory: &Directory,
     fresh: bool,
@@ -35,7 +35,7 @@ fn voted_text(
     }
 }
 
-/// The ending for a refusal to vote.
+/// The ending of a `vote` line for a refusal to vote.
 fn refusal_text(directory: &Directory, refusal: &VoteRefusal) -> Result<VoteText, OutOfMemory>
     ensures { IfOk result (λ text. text ≡ vote_answered (setting_with directory.now) (world_with directory.now) (Err refusal.now)) }
 {
@@ -86,7 +86,7 @@ fn refusal_text(directory: &Directory, refusal: &VoteRefusal) -> Result<VoteText
     })
 }
 
-/// The ending for a member's answer to a signed transaction.
+/// The ending of a `vote` line for the member's answer.
 pub fn vote_text(
     directory: &Directory,
     answer: &Result<Voted, VoteRefusal>,

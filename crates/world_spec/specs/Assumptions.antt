@@ -186,8 +186,8 @@ TransactionsApart txs = (t u : Transaction) → Has txs t → Has txs u → tran
 abbrev pub created : Transaction → ℕ → ObjectId
 created t n = record { 0 = created_id_of (transaction_digest t) n }
 
--- the ids that the commands of different transactions can draw, and those of the set-up, are different; so are
--- those of one transaction
+-- all ids that the commands of transactions can draw are different, within one transaction too, and none is an id of
+-- the set-up
 pub record IdsApart (s : Setting) (txs : List Transaction) : Type 0 where
   pub drawn : (t u : Transaction) → Has txs t → Has txs u → (n k : ℕ) → n < draws t.commands → k < draws u.commands → created t n ≡ created u k → (transaction_digest t ≡ transaction_digest u) × (n ≡ k)
   pub opened : (t : Transaction) → Has txs t → (n : ℕ) → n < draws t.commands → (o : Object) → Has s.opening o → o.id ≡ created t n → ⊥

@@ -1,4 +1,4 @@
--- What is held in a world.
+-- The digests of versions that the members of a world hold.
 use Rattle.std.specs.Prelude.{Option}
 use Rattle.digest_core.specs.declared.Digest.{Digest}
 use Rattle.chain_types.specs.declared.objects.ObjectKey.{ObjectKey}

@@ -20,7 +20,7 @@ pub record Known : Type 0 where
 abbrev pub names_of : {S : Type 0} → Setting → WorldOf S → Known
 names_of s w = record { things = s.things; users = w.users; txs = w.txs; drawn = w.drawn }
 
--- a setting and a world in which this is known, and that have nothing else
+-- a setting and a world (`world_with`) in which this is known, and that have nothing else
 abbrev pub setting_with : Known → Setting
 setting_with k = record {
   rules = record { stakes = []; writers = None; accepts = λ _ _ _. false };
@@ -31,7 +31,7 @@ setting_with k = record {
   seal = λ _ _. zero_digest;
 }
 
--- the same with these stakes, against which the weight of Ends is measured
+-- that setting with these stakes: lines on Ends give their weight of the total stake
 abbrev pub setting_staked : List ℕ → Known → Setting
 setting_staked stakes k = record (setting_with k) { rules = record { stakes = stakes; writers = None; accepts = λ _ _ _. false } }
 
@@ -49,7 +49,7 @@ with_thing k name = record k { things = k.things ++ record { name = name; id = t
 abbrev pub with_user : Known → Name → Known
 with_user k name = record k { users = k.users ++ user_of name ∷ [] }
 
--- the ids that a line's words name
+-- the created objects that a line's words name, by transaction and creation number
 abbrev pub drawn_words : Known → RefWord → List InputWord → List Drawn
 drawn_words k gas words = drawn_list (drawn_word (world_with k) gas.object) ++ filter_map (drawn_input (world_with k)) words
 

@@ -1,4 +1,4 @@
--- The members of a committee as they stand: a member that is up stands with its state. What a call does to one.
+-- Members without their records, as code keeps them: a member that is up has its state. What a call does to one.
 -- Source: this profile.
 use Rattle.std.specs.Prelude.{◌≡◌, ◌⊎◌, ⊤, ℕ, suc, Bool, true, false, List, [], ◌∷◌, ◌++◌, fold, Option, Some, None, option_map, is_some, slice_get, slice_set}
 use Rattle.digest_core.specs.declared.Digest.{Digest}
@@ -33,9 +33,9 @@ abbrev pub new_posts : Terms → List Object → ℕ → List Bool → List Post
 new_posts terms opening m [] = []
 new_posts terms opening m (honest ∷ flags) = standing_with terms m honest (fresh opening) ∷ new_posts terms opening (suc m) flags
 
--- ---- what stands in a post
+-- ---- posts as seats of a world
 
--- nobody looks at the state of a member that is down
+-- the state of a member; of one that is down, which nothing looks at, that of a fresh one
 abbrev pub state_or : Option Seated → Member
 state_or None = fresh []
 state_or (Some seat) = seat.state
@@ -104,33 +104,33 @@ stated_in r call finds_down = []
 stated_in r call (stops kept x) = []
 stated_in r call (answers before x) = stated r before call
 
--- none, or the one
+-- an optional value as a list
 abbrev pub list_of : {A : Type 0} → Option A → List A
 list_of None = []
 list_of (Some x) = x ∷ []
 
--- observable lists with more records of a member at the end of its list
+-- these lists with the records added, in order, at the end of the member's
 abbrev pub with_all : Journals → ℕ → List Record → Journals
 with_all lists m records = fold (λ (told : Journals) (x : Record). with_record told m (journals.journal_record.spell x)) lists records
 
--- observable lists grow by these records of this member
+-- if lists are observable, exactly these records of the member were added
 abbrev pub AddsAll : Option Journals → Option Journals → ℕ → List Record → Type 0
 AddsAll None now m records = ⊤
 AddsAll (Some lists) now m records = now ≡ Some (with_all lists m records)
 
--- observable lists grow by the first of these records
+-- if lists are observable, a prefix of these records of the member was added
 pub record AddsFront (before now : Option Journals) (m : ℕ) (records : List Record) : Type 0 where
   pub front : List Record
   pub rest : List Record
   pub is : records ≡ front ++ rest
   pub adds : AddsAll before now m front
 
--- observable lists after a call: its record was added, or nothing
+-- if lists are observable, the record that a call leaves was added; if it leaves none, they are as before
 abbrev pub AddsLeft : Option Journals → Option Journals → ℕ → Option Record → Type 0
 AddsLeft before now m None = KeepsJournals before now
 AddsLeft before now m (Some x) = AddsRecord before now m (journals.journal_record.spell x)
 
--- likewise if the call did not end: its record was added, or nothing
+-- after a call that did not end: `AddsLeft`, or observable lists are as before
 abbrev pub MayAddLeft : Option Journals → Option Journals → ℕ → Option Record → Type 0
 MayAddLeft before now m x = AddsLeft before now m x ⊎ KeepsJournals before now
 

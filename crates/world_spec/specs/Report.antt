@@ -286,7 +286,7 @@ abbrev pub and_lines : Lines → List Line → List Line
 and_lines (ls, true) rest = ls ++ rest
 and_lines (ls, false) rest = ls
 
--- so many entries, one after the other
+-- the lines for the next n entries of a member, up to the first after which the event does not go on
 abbrev pub entries_lines : {S : Type 0} → Seating S → Setting → ℕ → WorldOf S → ℕ → List Line
 entries_lines k s zero w m = []
 entries_lines k s (suc n) w m = and_lines (call_lines k s w m (next_over k w m)) (entries_lines k s n (if_called k s.rules w m (next_over k w m)) m)
@@ -295,7 +295,7 @@ abbrev pub none_taken : ℕ → List Line → List Line
 none_taken m [] = line.See m see_text.Nothing ∷ []
 none_taken m (l ∷ ls) = l ∷ ls
 
--- a halted member says so, also with no entry to take
+-- a halted member reports that it is halted, even if it has no entry to take
 abbrev pub see_halted : {S : Type 0} → Seating S → Setting → WorldOf S → ℕ → ℕ → Option Fork → List Line
 see_halted k s w m n (Some fork) = line.See m (see_text.Halted (tx_name w fork.first) (tx_name w fork.second)) ∷ []
 see_halted k s w m n None = none_taken m (entries_lines k s n w m)
@@ -392,7 +392,7 @@ ack_reached s w tx finds_down = ack_text.Down
 ack_reached s w tx (stops kept x) = ack_text.Down
 ack_reached s w tx (answers m x) = ack_answered w (ack_answer s.rules m tx)
 
--- a faulty member says what it likes
+-- a faulty member always says its acknowledgement; an honest one by its state
 abbrev pub ack_said : {S : Type 0} → Seating S → Setting → WorldOf S → ℕ → Digest → AckText
 ack_said k s w m tx = if honest_in k.honest w m then ack_reached s w tx (reached_over k s.rules w m (acks tx)) else ack_text.Said
 

@@ -99,12 +99,12 @@ abbrev pub called_if : Rules → Scene → ℕ → Option Call → Scene
 called_if r sc m None = sc
 called_if r sc m (Some call) = called_scene r sc m call
 
--- a member takes so many entries, as far as there are any
+-- the scene after a member took its next n entries, or as many as there are
 abbrev pub sees_to : Rules → ℕ → Scene → ℕ → Scene
 sees_to r zero sc m = sc
 sees_to r (suc n) sc m = sees_to r n (called_if r sc m (next_on sc m)) m
 
--- the records that they leave, one after the other
+-- the records that the call leaves: one or none; none if there is no call
 abbrev pub left_if : Rules → Scene → ℕ → Option Call → List Record
 left_if r sc m None = []
 left_if r sc m (Some call) = list_of (record_left (reached_in r sc.posts m call))
@@ -115,7 +115,7 @@ sees_left r (suc n) sc m = left_if r sc m (next_on sc m) ++ sees_left r n (calle
 
 -- ---- what a line hands to a member
 
--- nothing; one call; or so many entries of its sequence
+-- a line calls no member, makes one call on a member, or hands a member its next n entries
 pub data Work : Type 0 where
   idle : Work
   asks : ℕ → Call → Work
@@ -125,7 +125,7 @@ abbrev pub asked : ℕ → Option Call → Work
 asked m None = idle
 asked m (Some call) = asks m call
 
--- a faulty member is handed nothing
+-- an `ack` line calls an honest member only
 abbrev pub ack_work : Scene → ℕ → Option Made → Work
 ack_work sc m None = idle
 ack_work sc m (Some t) = if is_honest (bare_world sc) m then asks m (acks t.digest) else idle
@@ -144,31 +144,31 @@ work_by sc mv = idle
 unfoldable pub work_of : Scene → Event → Work
 work_of sc e = work_by sc (move_of e)
 
--- the scene after it
+-- the scene after this work
 abbrev pub worked : (Signer → List ℕ → Digest) → Rules → Scene → Work → Scene
 worked seal r sc idle = sc
 worked seal r sc (asks m call) = asked_scene seal r sc m call
 worked seal r sc (hands m n) = sees_to r n sc m
 
--- the records that it leaves, oldest first, and whose they are
+-- the member that this work calls and the records that it leaves, oldest first; none if it calls no member
 abbrev pub records_left : Rules → Scene → Work → Option (ℕ × List Record)
 records_left r sc idle = None
 records_left r sc (asks m call) = Some (m, list_of (record_left (reached_in r sc.posts m call)))
 records_left r sc (hands m n) = Some (m, sees_left r n sc m)
 
--- observable lists after a line: the records that it leaves were added, or nothing
+-- if lists are observable, the records that a line leaves were added; if it leaves none, they are as before
 abbrev pub AddsLine : Option (ℕ × List Record) → Option Journals → Option Journals → Type 0
 AddsLine None before now = KeepsJournals before now
 AddsLine (Some (m, records)) before now = AddsAll before now m records
 
--- likewise if the line did not end: the first of them were added
+-- after a line that did not end: a prefix of its records was added
 abbrev pub MayAddLine : Option (ℕ × List Record) → Option Journals → Option Journals → Type 0
 MayAddLine None before now = KeepsJournals before now
 MayAddLine (Some (m, records)) before now = AddsFront before now m records
 
--- ---- the step of a line that reads no records
+-- ---- the step of every line but `restart`, which reads records
 
--- what the sequences and the statements are in this world
+-- the scene with the sequences, the open epoch and the statements of this world
 abbrev pub with_order : Scene → World → Scene
 with_order sc w = record sc { sequences = w.sequences; epoch = w.epoch; said = w.said }
 
@@ -177,7 +177,8 @@ abbrev pub says_in : {A : Type 0} → (Member → Option A) → List Post → Op
 says_in says [] = None
 says_in says (p ∷ posts) = first_some ((if p.honest then option_and_then (λ (seat : Seated). says seat.state) p.standing else None) ∷ says_in says posts ∷ [])
 
--- a faulty member acknowledges what an honest one has
+-- what a faulty member acknowledges: the digest of the lowest-numbered honest member that is up and executed the
+-- transaction, else zeros; with one bit flipped if the line spoils it
 abbrev pub false_ack_in : Scene → Made → Bool → Statement
 false_ack_in sc t spoiled = statement.Ack t.signed.tx.epoch t.digest (spoiled_if spoiled (digest_or_zero (says_in (executed_digest t.digest) sc.posts)))
 
@@ -207,7 +208,7 @@ steps_to trust sc e = steps_by trust sc (move_of e)
 
 -- ---- the lines
 
--- what becomes of a call on a member
+-- what a call on a member meets: a member that is down, a stop, or an answer
 abbrev pub comes_to : Trust → Scene → ℕ → Call → Reached
 comes_to trust sc m call = reached_in (rules_in trust.accepts sc) sc.posts m call
 
@@ -237,13 +238,13 @@ call_lines_in trust sc m (Some ends) = ([], false)
 call_lines_in trust sc m (Some turns) = ([], false)
 call_lines_in trust sc m (Some (acks tx)) = ([], false)
 
--- so many entries, one after the other
+-- the lines for the next n entries of a member, up to the first after which the line does not go on
 abbrev pub entries_lines_in : Trust → ℕ → Scene → ℕ → List Line
 entries_lines_in trust zero sc m = []
 entries_lines_in trust (suc n) sc m =
     and_lines (call_lines_in trust sc m (next_on sc m)) (entries_lines_in trust n (called_if (rules_in trust.accepts sc) sc m (next_on sc m)) m)
 
--- a halted member says so, also with no entry to take
+-- a halted member reports that it is halted, even if it has no entry to take
 abbrev pub see_halted_in : Trust → Scene → ℕ → ℕ → Option Fork → List Line
 see_halted_in trust sc m n (Some fork) = line.See m (see_text.Halted (tx_name (bare_world sc) fork.first) (tx_name (bare_world sc) fork.second)) ∷ []
 see_halted_in trust sc m n None = none_taken m (entries_lines_in trust n sc m)

@@ -50,13 +50,13 @@ scene_of s w = record {
   posts = posts_from s 0 w.seats;
 }
 
--- the scene of a world, in a setting with these seals
+-- the scene is that of the world, and the setting makes and accepts seals as `trust` does
 pub record Shows (trust : Trust) (s : Setting) (w : World) (sc : Scene) : Type 0 where
   pub rules : s.rules ≡ rules_for (terms_of s.rules) trust.accepts
   pub seal : s.seal ≡ trust.seal
   pub scene : sc ≡ scene_of s w
 
--- a line that reads records
+-- `restart` is the only line that reads records
 abbrev pub is_restart : Event → Bool
 is_restart e = is_start_move (move_of e)
 
@@ -68,7 +68,7 @@ spelled records = map journals.journal_record.spell records
 abbrev pub journal_in : World → ℕ → List (List ℕ)
 journal_in w m = spelled (records_of (slice_get w.seats m))
 
--- lists are observable, and are the journals of the world
+-- lists are observable, and each is its member's journal in the world
 abbrev pub Tells : Option Journals → World → Type 0
 Tells None w = ⊥
 Tells (Some lists) w = (m : ℕ) → journal_of lists m ≡ journal_in w m
@@ -81,12 +81,12 @@ abbrev pub TellsFront : Option Journals → World → Type 0
 TellsFront None w = ⊥
 TellsFront (Some lists) w = (m : ℕ) → IsFront (journal_of lists m) (journal_in w m)
 
--- every member starts from its journal in its state, and each of its records was due after those before it
+-- starting any member from its journal gives its state, and each of its records was due after those before it
 pub record Restarts (s : Setting) (w : World) : Type 0 where
   pub starts : (m : ℕ) (seat : worlds.Seat) → slice_get w.seats m ≡ Some seat → started s.rules s.opening (spelled seat.records) ≡ Ok (member_in s seat)
   pub due : (m : ℕ) (seat : worlds.Seat) → slice_get w.seats m ≡ Some seat → Along (IsDueBehind s.rules s.opening) [] seat.records
 
--- what is read from the bytes of a call is a value of its type
+-- whatever the bytes of a call decode to is in the range of its Rust type
 abbrev pub ReadsFit : Call → Type 0
 ReadsFit (votes bytes) = (x : SignedTx) → read_signed bytes ≡ Ok x → transactions.signed.fits x
 ReadsFit (holds bytes) = (c : Certificate) → read_certificate bytes ≡ Ok c → messages.certificate.fits c
@@ -97,13 +97,13 @@ ReadsFit ends = Unit {0}
 ReadsFit turns = Unit {0}
 ReadsFit (acks tx) = Unit {0}
 
--- likewise for what a line hands to a member
+-- `ReadsFit` for the call that a line makes, if it makes one
 abbrev pub WorkReadsFit : Work → Type 0
 WorkReadsFit idle = Unit {0}
 WorkReadsFit (asks m call) = ReadsFit call
 WorkReadsFit (hands m n) = Unit {0}
 
--- observable lists have one for each member
+-- if lists are observable, there are at least as many as members
 abbrev pub HasRoom : Option Journals → World → Type 0
 HasRoom None w = Unit {0}
 HasRoom (Some lists) w = length w.seats ≤ length lists

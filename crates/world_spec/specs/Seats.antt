@@ -1,4 +1,5 @@
--- A member at its seat: its state, and whether it is up. What a call does to it. Source: this profile.
+-- A member as contracts see it: its number, its committee, whether it is up, and its state. What a call does to it.
+-- Source: this profile.
 use Rattle.std.specs.Prelude.{ℕ, Bool, false, List, Option, None, if◌then◌else◌}
 use Rattle.digest_core.specs.declared.Digest.{Digest}
 use Rattle.quorum_core.specs.declared.signer.Signer.{Signer}
@@ -18,11 +19,11 @@ pub record Seated : Type 0 where
 abbrev pub rules_of_seat : Seated → (Signer → List ℕ → Digest → Bool) → Rules
 rules_of_seat seat accepts = rules_for seat.terms accepts
 
--- likewise if no seal is accepted, for calls in which the rules play no part
+-- the committee's rules with no accepted seal, for calls that check none
 abbrev pub bare_rules : Seated → Rules
 bare_rules seat = rules_of_seat seat (λ by bytes seal. false)
 
--- a member that is down stays as it is
+-- the member after a call; one that is down stays as it is
 abbrev pub behind : Rules → Seated → Call → Seated
 behind r seat call = if seat.up then record seat { state = called r seat.state call } else seat
 

@@ -96,7 +96,7 @@ objects_from n (line.Counter name value ∷ lines) = shared_thing n (content.Cou
 objects_from n (line.Cap name who currency ∷ lines) = owned_thing n who (content.Cap currency 0) ∷ objects_from (n + 1) lines
 objects_from n (line.Writers w ∷ lines) = objects_from n lines
 
--- one whose id an earlier one has is left out
+-- the objects with this one at the end; left out if an earlier one has its id
 abbrev pub with_new : List Object → Object → List Object
 with_new objects o = if list_any (λ (p : Object). id_eq p.id o.id) objects then objects else objects ++ o ∷ []
 

@@ -75,20 +75,21 @@ abbrev pub placed : {A B : Type 0} → (ℕ → A → B) → ℕ → List A → 
 placed h n [] = []
 placed h n (x ∷ xs) = h n x ∷ placed h (suc n) xs
 
--- a world with something else in each seat
+-- the world with each seat replaced by a function of its number and the seat
 abbrev pub reseated : {A B : Type 0} → (ℕ → A → B) → WorldOf A → WorldOf B
 reseated h w = record { sequences = w.sequences; epoch = w.epoch; seats = placed h 0 w.seats; said = w.said; txs = w.txs; certs = w.certs; users = w.users; drawn = w.drawn }
 
--- what a line does to a seat: the member answers, and keeps a record if one is due; it stops, and keeps the record or
--- loses it; a stop is armed; it starts
+-- what a line does to a seat: the member answers and keeps its record, if one is due (`keeps`); it stops at a record,
+-- which is kept (true) or lost (`halts`); a stop is armed, to keep (true) or lose (`arms`); it starts again (`starts`)
 pub data Deed : Type 0 where
   keeps : Option Record → Deed
   halts : Bool → Record → Deed
   arms : Bool → Deed
   starts : Deed
 
--- what stands in a seat: whether the member is honest and up, its armed stop, its state and the number of its records,
--- and how a deed changes it; and how members make seals
+-- what the definitions need of a seat, whatever it is: whether the member is honest and up, its armed stop, its state,
+-- the number of its records, and how a deed changes it; and how members make seals. Worlds use it at seats of records,
+-- scenes at posts
 pub record Seating (S : Type 0) : Type 0 where
   pub honest : S → Bool
   pub up : S → Bool
@@ -108,7 +109,7 @@ new_world s = record { sequences = [] ∷ []; epoch = 0; seats = map new_seat s.
 abbrev pub member_in : Setting → Seat → Member
 member_in s seat = state s.rules s.opening seat.records
 
--- the entries of an epoch's sequence
+-- the list, empty if there is none
 abbrev pub list_or_none : {A : Type 0} → Option (List A) → List A
 list_or_none None = []
 list_or_none (Some xs) = xs

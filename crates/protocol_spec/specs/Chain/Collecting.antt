@@ -1,10 +1,11 @@
--- What the words of members on something give together, whatever the words are: their votes, or their acknowledgements.
--- Source: Sui Lutris, for the votes of a quorum that agree; the order of the causes is this profile's own.
+-- Collecting: what the last words of some members give together. A word is a vote, or an acknowledgement. Source: Sui
+-- Lutris, for the votes of a quorum that agree; the order of the causes is this profile's own.
 use Rattle.std.specs.Prelude.{ℕ, Bool, not, List, [], ◌∷◌, Option, Some, None}
 use Rattle.protocol_spec.specs.Chain.Words.{first_of, first_some, where_true}
 use Rattle.protocol_spec.specs.Chain.Committee.{weight, total_of, is_quorum}
 
--- what collecting gives: a member without a word, too little stake, two that differ, or all of them
+-- what collecting gives: the first member without a word; the weight and the total stake, if that is not a quorum; the
+-- first two members whose words differ; or that all agree
 pub data Collected : Type 0 where
   lacks : ℕ → Collected
   short : ℕ → ℕ → Collected
@@ -31,6 +32,6 @@ abbrev pub whole_or : Option Collected → Collected
 whole_or None = whole
 whole_or (Some c) = c
 
--- what the members' words give, in the order of the causes
+-- `reads` is the word of each member: the first of the three causes that applies, or `whole`
 abbrev pub collected : {A : Type 0} → (A → A → Bool) → List ℕ → (ℕ → Option A) → List ℕ → Collected
 collected same stakes reads ms = whole_or (first_some (first_of (λ m. lacks_where m (reads m)) ms ∷ too_short stakes ms ∷ differs_among same reads ms ∷ []))

@@ -89,7 +89,7 @@ abbrev pub begins : List Object → ObjectId → ℕ → Option Digest → Stand
 begins opening id initial None = (version_in (opening_object opening id), producers.Opening)
 begins opening id initial (Some origin) = (initial, producers.Tx origin)
 
--- the input's word on where a shared object begins
+-- where the shared object of this id begins, if the input names it
 abbrev pub beginning : List Object → ObjectId → (Input × Option Digest) → Option Standing
 beginning opening id (inputs.Pure bytes, origin) = None
 beginning opening id (inputs.Owned r, origin) = None
@@ -140,7 +140,7 @@ taken_version opening earlier c (inputs.Shared id initial mutable) = (current op
 abbrev pub version_at_admission : List Object → List Admitted → Certificate → ℕ
 version_at_admission opening earlier c = lamport_version (map (taken_version opening earlier c) (objects_of c.tx))
 
--- the certificate as it is admitted after these
+-- the certificate as it is admitted after the earlier ones: with its version and its assignments
 unfoldable pub admit : List Object → List Admitted → Held → Admitted
 admit opening earlier h = record {
   digest = h.digest;
@@ -190,11 +190,11 @@ take_free writers opening (suc n) a = taken_next (take_free writers opening n) o
 abbrev pub take_all : Option ℕ → List Object → Admission → Admission
 take_all writers opening a = take_free writers opening (length a.pending) a
 
--- a certificate's entry
+-- after the entry of a certificate: it is pending, and then all that is free is taken
 unfoldable pub entered : Option ℕ → List Object → Admission → Held → Admission
 entered writers opening a h = take_all writers opening (record a { pending = a.pending ++ h ∷ [] })
 
--- a Commit mark, after its cut
+-- after a Commit mark, whose cut was made: writers are counted anew, and all that is free then is taken
 unfoldable pub passed_mark : Option ℕ → List Object → Admission → Admission
 passed_mark writers opening a = take_all writers opening (record a { marked = length a.admitted })
 
@@ -229,7 +229,7 @@ abbrev pub deferred_by : Option ℕ → Admission → Option Held → Option Obj
 deferred_by writers a None = None
 deferred_by writers a (Some h) = without_room (list_all (is_origin_admitted a) h.cert.origins) writers a h
 
--- the first object that has its writers, of a pending transaction whose origins are all admitted
+-- the first object with as many writers as the limit, of a pending transaction whose origins are all admitted
 unfoldable pub deferred_on : Option ℕ → Admission → Digest → Option ObjectId
 deferred_on writers a tx = deferred_by writers a (pending_certificate a tx)
 

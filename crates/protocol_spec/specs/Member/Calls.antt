@@ -75,7 +75,7 @@ decided_as (decided.PoorGas had want) = no_vote.PoorGas had want
 decided_as (decided.Locked key by) = no_vote.Locked key by
 decided_as decided.OutOfMemory = no_vote.OutOfMemory
 
--- what a vote needs beside the sender's seal
+-- why there is no new vote, in order; `unsealed` is the refusal of the sender's seal, if it is not accepted
 abbrev pub new_vote_cases : Member → Transaction → Option VoteRefusal → List (Option VoteRefusal)
 new_vote_cases m t unsealed =
     where_true m.closed no_vote.Closed ∷
@@ -93,7 +93,7 @@ abbrev pub vote_again : Member → Transaction → Option VoteRefusal → Option
 vote_again m t unsealed (Some v) = Ok (voted_as m t v.origins false)
 vote_again m t unsealed None = new_vote m t unsealed
 
--- the vote for a transaction, if its seal is accepted or refused as said
+-- the vote for a transaction: the one given before, or a new one; `unsealed` as above
 abbrev pub vote_on : Member → Transaction → Option VoteRefusal → Result Voted VoteRefusal
 vote_on m t unsealed = refused_or (where_true (not (t.epoch == m.epoch)) (no_vote.WrongEpoch t.epoch m.epoch)) (vote_again m t unsealed (vote_for m (transaction_digest t)))
 
@@ -239,7 +239,7 @@ vote_record (Err fault) answer = None
 vote_record (Ok s) (Err refusal) = None
 vote_record (Ok s) (Ok v) = if v.fresh then kept_vote s.tx v.statement else None
 
--- a certificate is kept if it is newly held, and if it is the evidence of a fork
+-- whether a certificate leaves a record: it is newly held, or it is the evidence of a fork
 abbrev pub is_hold_kept : Result Bool HoldRefusal → Bool
 is_hold_kept (Ok new) = new
 is_hold_kept (Err no_hold.Down) = false

@@ -147,7 +147,7 @@ is_due b executed h =
 abbrev pub missing : List Version → Wanted → Option ObjectKey
 missing held w = where_true (not (is_some (found held w))) w.key
 
--- the first version that is not present, or none if it does not fit
+-- a certificate that is left, with the first wanted version that is not present; with none if its objects do not fit
 abbrev pub left_as : Books → List Execution → Held → Left
 left_as b executed h = record { tx = h.digest; key = first_of (missing (versions b.opening executed)) (wants_of b.admission h) }
 
