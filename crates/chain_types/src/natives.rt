@@ -43,10 +43,7 @@ pub static NATIVES: [Native; 14] = [
     // a value | a counter
     (b"counter_new", &[Mode::Number]),
     // a counter, an amount | nothing | sum above 64 bits
-    (
-        b"counter_add",
-        &[Mode::ByMut(Kind::Counter), Mode::Number],
-    ),
+    (b"counter_add", &[Mode::ByMut(Kind::Counter), Mode::Number]),
     // a counter, the least value | nothing | the counter has less
     (
         b"counter_require",
@@ -63,7 +60,11 @@ pub static NATIVES: [Native; 14] = [
     // a vault, its key, an amount | a coin | the key of another vault | the vault has less
     (
         b"vault_withdraw",
-        &[Mode::ByMut(Kind::Vault), Mode::ByRef(Kind::VaultKey), Mode::Number],
+        &[
+            Mode::ByMut(Kind::Vault),
+            Mode::ByRef(Kind::VaultKey),
+            Mode::Number,
+        ],
     ),
     // a counter or vault of this block | nothing; anybody may name it from now on
     // | not created in this block | neither a counter nor a vault
@@ -75,6 +76,10 @@ pub static NATIVES: [Native; 14] = [
     // a counter, an amount, a limit | nothing | sum above 64 bits | sum above the limit
     (
         b"counter_add_limited",
-        &[Mode::ByMut(Kind::Counter), Mode::Number, Mode::ByRef(Kind::Limit)],
+        &[
+            Mode::ByMut(Kind::Counter),
+            Mode::Number,
+            Mode::ByRef(Kind::Limit),
+        ],
     ),
 ];

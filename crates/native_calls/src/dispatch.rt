@@ -59,19 +59,9 @@ pub fn call(
             gives_new(alloc, &place, counter, None)
         }
         5 => Ok(counter_add(alloc, &place, &item_at(args, 0), number_at(args, 1))),
-        6 => Ok(counter_require(
-            alloc,
-            &place,
-            &item_at(args, 0),
-            number_at(args, 1),
-        )),
+        6 => Ok(counter_require(alloc, &place, &item_at(args, 0), number_at(args, 1))),
         7 => vault_new(alloc, &place, number_at(args, 0)),
-        8 => Ok(vault_deposit(
-            alloc,
-            &place,
-            &item_at(args, 0),
-            &item_at(args, 1),
-        )),
+        8 => Ok(vault_deposit(alloc, &place, &item_at(args, 0), &item_at(args, 1))),
         9 => vault_withdraw(
             alloc,
             &place,
