@@ -10,6 +10,7 @@
 #![tactic(auto)]
 
 use command_words::{command_of, names_replay, place_of};
+use committee_core::status::{BAD_WORDS, KEEP_FAULT, OUT_OF_MEMORY, READ_FAULT, WRITE_FAULT};
 use committee_core::{committee, committee_in, fresh_keeper};
 use outside::{Sink, Source};
 use outside_std::{FileDisk, InSource, Missing, OutSink};
@@ -32,21 +33,21 @@ fn words_of(rt: &HostRuntime) -> io::Result<Vec<String>> {
 /// The status if the words cannot be had: words that are not UTF-8 are wrong words.
 fn status_of_words(error: &io::Error) -> u8 {
     match error.kind() {
-        io::ErrorKind::InvalidData => 2,
-        _ => 7,
+        io::ErrorKind::InvalidData => BAD_WORDS,
+        _ => OUT_OF_MEMORY,
     }
 }
 
 /// What standard error says of a status.
 fn message(status: u8) -> Option<&'static str> {
     match status {
-        2 => Some(
+        BAD_WORDS => Some(
             "usage: committee run | committee make N | committee check STAKES TX | committee follow M | committee desk N | committee replay M",
         ),
-        4 => Some("read fault"),
-        5 => Some("write fault"),
-        6 => Some("keep fault"),
-        7 => Some("want of memory"),
+        READ_FAULT => Some("read fault"),
+        WRITE_FAULT => Some("write fault"),
+        KEEP_FAULT => Some("keep fault"),
+        OUT_OF_MEMORY => Some("want of memory"),
         _ => None,
     }
 }
@@ -60,7 +61,7 @@ fn in_memory<R: Threads + Wait + Sync, S: Source, K: Sink>(
     sink: &mut K,
 ) -> u8 {
     let Ok(mut keeper) = fresh_keeper(rt.alloc(), &[]) else {
-        return 7;
+        return OUT_OF_MEMORY;
     };
     committee(threads, rt.alloc(), words, source, sink, &mut keeper)
 }
@@ -86,16 +87,16 @@ fn in_file<R: Threads + Wait + Sync, S: Source, K: Sink>(
 ) -> u8 {
     let (Some(path), Some(command)) = (words.get(place), words.get(..place.saturating_sub(1)))
     else {
-        return 2;
+        return BAD_WORDS;
     };
     if command_of(command).is_none() {
-        return 2;
+        return BAD_WORDS;
     }
     let disk = match FileDisk::open(rt, path.as_str(), if_missing(command)) {
         Ok(disk) => disk,
         Err(fault) => {
             let _ = eprintln!(rt; "{path}: {fault}");
-            return 6;
+            return KEEP_FAULT;
         }
     };
     let (status, _disk) = committee_in(threads, rt.alloc(), command, source, sink, disk);
@@ -110,7 +111,7 @@ fn status_of<R: Threads + Wait + Sync>(threads: &R, rt: &HostRuntime) -> u8 {
         Err(error) => return status_of_words(&error),
     };
     let Ok(writer) = BufWriter::new(rt.alloc(), io::writer(rt)) else {
-        return 7;
+        return OUT_OF_MEMORY;
     };
     let mut source = InSource::new(rt.reader());
     let mut sink = OutSink::new(writer);
@@ -121,7 +122,7 @@ fn status_of<R: Threads + Wait + Sync>(threads: &R, rt: &HostRuntime) -> u8 {
         }
         None => in_memory(threads, rt, words.as_slice(), &mut source, &mut sink),
     };
-    if sink.finish() { status } else { 5 }
+    if sink.finish() { status } else { WRITE_FAULT }
 }
 
 fn main(rt: HostRuntime) -> ExitCode {

@@ -33,6 +33,7 @@ use crate::run::run_schedule;
 use crate::saying::text_with_number;
 use crate::seals::{laws_of_scenes, program_sealer};
 use crate::silent::Silence;
+use crate::status::{DONE, NEGATIVE, NO_SCHEDULE, OUT_OF_MEMORY, READ_FAULT, WRITE_FAULT};
 use crate::stop::Stop;
 use crate::text::LONGEST_TEXT;
 use chain_types::{decode_signed, encode_signed, tx_digest};
@@ -264,11 +265,11 @@ fn said_in<R: Threads + Wait + Sync, S: MakesSeals + Drop + Send + Sync>(
     ensures { IfOk result (λ said. EndsBy true (is_honest (new_world (setting_in (trust_by (S.made sealer) (S.accepts sealer)) schedule.now)) 0) (trust_by (S.made sealer) (S.accepts sealer)) callers schedule.now said.status said.text) }
 {
     if !world.is_honest(0) {
-        return said_line(alloc, 8, b"desk: no honest member\n".as_slice());
+        return said_line(alloc, NEGATIVE, b"desk: no honest member\n".as_slice());
     }
     let calls = calls_in(rt, alloc, callers, world, sealer)?;
     let text = print_history(alloc, world, &calls)?;
-    Ok(Said { status: 0, text })
+    Ok(Said { status: DONE, text })
 }
 
 /// What is said of a schedule.
@@ -287,7 +288,7 @@ fn said_of<R: Threads + Wait + Sync, S: MakesSeals + Drop + Send + Sync>(
     ensures { IfOk result (λ said. EndsBy (are_txs schedule.now) (is_honest (new_world (setting_in (trust_by (S.made sealer) (S.accepts sealer)) schedule.now)) 0) (trust_by (S.made sealer) (S.accepts sealer)) callers schedule.now said.status said.text) }
 {
     if !only_tx(schedule.events.as_slice()) {
-        return said_line(alloc, 8, b"desk: only tx lines\n".as_slice());
+        return said_line(alloc, NEGATIVE, b"desk: only tx lines\n".as_slice());
     }
     match world_of(rt, alloc, schedule, &sealer) {
         Ok(world) => {
@@ -318,7 +319,10 @@ fn said_refused(alloc: Global, line: u64, cause: u8) -> Result<Said, OutOfMemory
 {
     let mut text = Seq::new(alloc);
     print_refused(line, cause, &mut text)?;
-    Ok(Said { status: 3, text })
+    Ok(Said {
+        status: NO_SCHEDULE,
+        text,
+    })
 }
 
 /// What is said of a text.
@@ -351,8 +355,8 @@ fn say<K: Sink>(said: &Said, sink: &mut K) -> u8
 {
     match write_all(sink, said.text.as_slice()) {
         Ok(()) => said.status,
-        Err(OutFault::Failed) => 5,
-        Err(OutFault::OutOfMemory) => 7,
+        Err(OutFault::Failed) => WRITE_FAULT,
+        Err(OutFault::OutOfMemory) => OUT_OF_MEMORY,
     }
 }
 
@@ -375,7 +379,7 @@ fn desk_read<R: Threads + Wait + Sync, K: Sink>(
     let sealer = program_sealer();
     match said_of_text(rt, alloc, callers, text, sealer) {
         Ok(said) => say(&said, sink),
-        Err(OutOfMemory) => 7,
+        Err(OutOfMemory) => OUT_OF_MEMORY,
     }
 }
 
@@ -399,7 +403,7 @@ pub(crate) fn desk<R: Threads + Wait + Sync, S: Source, K: Sink>(
 {
     match read_text(alloc, LONGEST_TEXT, source) {
         Ok(text) => desk_read(rt, alloc, callers, text.as_slice(), sink),
-        Err(OutFault::Failed) => 4,
-        Err(OutFault::OutOfMemory) => 7,
+        Err(OutFault::Failed) => READ_FAULT,
+        Err(OutFault::OutOfMemory) => OUT_OF_MEMORY,
     }
 }

@@ -17,6 +17,7 @@ ghost use Rattle.committee_core.specs.declared.silent.Unrun.TheVariants as unrun
 
 use crate::replay::say_refused;
 use crate::silent::{Unrun, world_behind};
+use crate::status::{KEEP_FAULT, OUT_OF_MEMORY, READ_FAULT, WRITE_FAULT};
 use crate::text::LONGEST_TEXT;
 use crate::verdict::{Verdict, verdict_behind, verdict_line, verdict_status};
 use outside::{Keeper, OutFault, Sink, Source, read_text, write_all};
@@ -75,8 +76,8 @@ fn say_verdict<K: Sink>(alloc: Global, member: u32, verdict: Verdict, sink: &mut
 {
     match write_verdict(alloc, member, verdict, sink) {
         Ok(()) => verdict_status(verdict),
-        Err(OutFault::Failed) => 5,
-        Err(OutFault::OutOfMemory) => 7,
+        Err(OutFault::Failed) => WRITE_FAULT,
+        Err(OutFault::OutOfMemory) => OUT_OF_MEMORY,
     }
 }
 
@@ -103,9 +104,9 @@ fn follow_text<R: Threads + Sync, K: Sink, D: Keeper>(
     match find_verdict(rt, alloc, text, member, keeper) {
         Ok(verdict) => say_verdict(alloc, member, verdict, sink),
         Err(Unrun::Refused { line, cause }) => say_refused(alloc, line, cause, sink),
-        Err(Unrun::KeepFault) => 6,
-        Err(Unrun::BadRecord) => 6,
-        Err(Unrun::OutOfMemory) => 7,
+        Err(Unrun::KeepFault) => KEEP_FAULT,
+        Err(Unrun::BadRecord) => KEEP_FAULT,
+        Err(Unrun::OutOfMemory) => OUT_OF_MEMORY,
     }
 }
 
@@ -133,7 +134,7 @@ pub(crate) fn follow<R: Threads + Sync, S: Source, K: Sink, D: Keeper>(
 {
     match read_text(alloc, LONGEST_TEXT, source) {
         Ok(text) => follow_text(rt, alloc, text.as_slice(), member, sink, keeper),
-        Err(OutFault::Failed) => 4,
-        Err(OutFault::OutOfMemory) => 7,
+        Err(OutFault::Failed) => READ_FAULT,
+        Err(OutFault::OutOfMemory) => OUT_OF_MEMORY,
     }
 }

@@ -17,6 +17,7 @@ ghost use Rattle.command_words.specs.Words.{command_in};
 use crate::call_log::{CallLog, Opening};
 use crate::keeping::MOST_MEMBERS;
 use crate::saying::text_with_number;
+use crate::status::{KEEP_FAULT, NEGATIVE, OUT_OF_MEMORY, WRITE_FAULT};
 use crate::top::committee;
 use command_words::names_replay;
 use disk_log::{Disk, DiskLog, OpenRefusal};
@@ -69,12 +70,12 @@ fn say_unopened<K: Sink>(alloc: Global, refusal: OpenRefusal, sink: &mut K) -> u
     ensures cut { (result ≡ 5) ⊎ (result ≡ 7) → Keeps (K.held sink.old) (K.held sink.new) ⊎ IsBadMember refusal (λ at. AppendsFront (K.held sink.old) (K.held sink.new) (bad_member_text at)) }
 {
     match refusal {
-        OpenRefusal::DiskFault => 6,
-        OpenRefusal::OutOfMemory => 7,
+        OpenRefusal::DiskFault => KEEP_FAULT,
+        OpenRefusal::OutOfMemory => OUT_OF_MEMORY,
         OpenRefusal::BadMember { at } => match write_bad_member(alloc, at, sink) {
-            Ok(()) => 8,
-            Err(OutFault::Failed) => 5,
-            Err(OutFault::OutOfMemory) => 7,
+            Ok(()) => NEGATIVE,
+            Err(OutFault::Failed) => WRITE_FAULT,
+            Err(OutFault::OutOfMemory) => OUT_OF_MEMORY,
         },
     }
 }
@@ -101,9 +102,9 @@ fn say_not_empty<K: Sink>(sink: &mut K) -> u8
     ensures cut { (result ≡ 5) ⊎ (result ≡ 7) → AppendsFront (K.held sink.old) (K.held sink.new) not_empty_text }
 {
     match write_not_empty(sink) {
-        Ok(()) => 8,
-        Err(OutFault::Failed) => 5,
-        Err(OutFault::OutOfMemory) => 7,
+        Ok(()) => NEGATIVE,
+        Err(OutFault::Failed) => WRITE_FAULT,
+        Err(OutFault::OutOfMemory) => OUT_OF_MEMORY,
     }
 }
 

@@ -20,6 +20,7 @@ mod run;
 mod saying;
 mod seals;
 mod silent;
+pub mod status;
 mod stop;
 mod text;
 mod top;

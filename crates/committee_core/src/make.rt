@@ -15,6 +15,7 @@ ghost use Rattle.committee_core.specs.declared.make.Unmade.TheVariants as unmade
 
 use crate::event::write_line;
 use crate::silent::{Unrun, world_behind};
+use crate::status::{DONE, KEEP_FAULT, OUT_OF_MEMORY, WRITE_FAULT};
 use outside::{Keeper, OutFault, Sink};
 use report_text::Line;
 use run_law::generated_text_is_a_schedule;
@@ -152,11 +153,11 @@ pub(crate) fn make<R: Threads + Sync, K: Sink, D: Keeper>(
 {
     match sums_of_made(rt, alloc, number, keeper) {
         Ok(sums) => match write_summary(alloc, number, &sums, sink) {
-            Ok(()) => 0,
-            Err(OutFault::Failed) => 5,
-            Err(OutFault::OutOfMemory) => 7,
+            Ok(()) => DONE,
+            Err(OutFault::Failed) => WRITE_FAULT,
+            Err(OutFault::OutOfMemory) => OUT_OF_MEMORY,
         },
-        Err(Unmade::KeepFault) => 6,
-        Err(Unmade::OutOfMemory) => 7,
+        Err(Unmade::KeepFault) => KEEP_FAULT,
+        Err(Unmade::OutOfMemory) => OUT_OF_MEMORY,
     }
 }

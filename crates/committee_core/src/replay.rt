@@ -25,6 +25,9 @@ use crate::event::{print_lines, write_bad_record};
 use crate::run::open_world;
 use crate::saying::text_with_number;
 use crate::seals::program_sealer;
+use crate::status::{
+    DONE, KEEP_FAULT, NEGATIVE, NO_SCHEDULE, OUT_OF_MEMORY, READ_FAULT, WRITE_FAULT,
+};
 use crate::text::{LONGEST_TEXT, refuse};
 use outside::{Keeper, OutFault, Sink, Source, read_text, write_all};
 use report_text::{Line, RestartText, print_line};
@@ -95,9 +98,9 @@ fn say_started<K: Sink>(
     ensures cut { (result ≡ 5) ⊎ (result ≡ 7) → AppendsFront (K.held sink.old) (K.held sink.new) (lines_text (report_line.Restart member (restart_text.Records replayed.now.count) ∷ show_by world.now.known member (Some replayed.now.validator))) }
 {
     match write_started(alloc, world, member, replayed, sink) {
-        Ok(()) => 0,
-        Err(OutFault::Failed) => 5,
-        Err(OutFault::OutOfMemory) => 7,
+        Ok(()) => DONE,
+        Err(OutFault::Failed) => WRITE_FAULT,
+        Err(OutFault::OutOfMemory) => OUT_OF_MEMORY,
     }
 }
 
@@ -109,9 +112,9 @@ fn say_bad_record<K: Sink>(alloc: Global, member: u32, place: u64, sink: &mut K)
     ensures cut { (result ≡ 5) ⊎ (result ≡ 7) → AppendsFront (K.held sink.old) (K.held sink.new) (bad_record_text member place) }
 {
     match write_bad_record(alloc, member, place, sink) {
-        Ok(()) => 6,
-        Err(OutFault::Failed) => 5,
-        Err(OutFault::OutOfMemory) => 7,
+        Ok(()) => KEEP_FAULT,
+        Err(OutFault::Failed) => WRITE_FAULT,
+        Err(OutFault::OutOfMemory) => OUT_OF_MEMORY,
     }
 }
 
@@ -146,9 +149,9 @@ fn say_no_member<K: Sink>(alloc: Global, member: u32, sink: &mut K) -> u8
     ensures cut { (result ≡ 5) ⊎ (result ≡ 7) → AppendsFront (K.held sink.old) (K.held sink.new) (no_member_text member) }
 {
     match write_no_member(alloc, member, sink) {
-        Ok(()) => 8,
-        Err(OutFault::Failed) => 5,
-        Err(OutFault::OutOfMemory) => 7,
+        Ok(()) => NEGATIVE,
+        Err(OutFault::Failed) => WRITE_FAULT,
+        Err(OutFault::OutOfMemory) => OUT_OF_MEMORY,
     }
 }
 
@@ -160,9 +163,9 @@ pub(crate) fn say_refused<K: Sink>(alloc: Global, line: u64, cause: u8, sink: &m
     ensures cut { (result ≡ 5) ⊎ (result ≡ 7) → AppendsFront (K.held sink.old) (K.held sink.new) (text_of (report_line.Refused line cause)) }
 {
     match refuse(alloc, line, cause, sink) {
-        Ok(()) => 3,
-        Err(OutFault::Failed) => 5,
-        Err(OutFault::OutOfMemory) => 7,
+        Ok(()) => NO_SCHEDULE,
+        Err(OutFault::Failed) => WRITE_FAULT,
+        Err(OutFault::OutOfMemory) => OUT_OF_MEMORY,
     }
 }
 
@@ -202,8 +205,8 @@ fn replay_honest<S: MakesSeals, K: Sink, D: Keeper>(
             status
         }
         Err(RestartFault::BadRecord { place }) => say_bad_record(alloc, member, place, sink),
-        Err(RestartFault::KeepFault) => 6,
-        Err(RestartFault::OutOfMemory) => 7,
+        Err(RestartFault::KeepFault) => KEEP_FAULT,
+        Err(RestartFault::OutOfMemory) => OUT_OF_MEMORY,
     }
 }
 
@@ -256,7 +259,7 @@ fn replay_schedule<S: MakesSeals, K: Sink, D: Keeper>(
             drop(world);
             status
         }
-        Err(OutOfMemory) => 7,
+        Err(OutOfMemory) => OUT_OF_MEMORY,
     }
 }
 
@@ -280,7 +283,7 @@ fn replay_text<S: MakesSeals, K: Sink, D: Keeper>(
     match read_schedule(alloc, text) {
         Ok(schedule) => replay_schedule(alloc, &schedule, member, sealer, sink, keeper),
         Err(ScheduleRefusal::Refused { line, cause }) => say_refused(alloc, line, cause, sink),
-        Err(ScheduleRefusal::OutOfMemory) => 7,
+        Err(ScheduleRefusal::OutOfMemory) => OUT_OF_MEMORY,
     }
 }
 
@@ -326,7 +329,7 @@ pub(crate) fn replay<S: Source, K: Sink, D: Keeper>(
 {
     match read_text(alloc, LONGEST_TEXT, source) {
         Ok(text) => replay_read(alloc, text.as_slice(), member, sink, keeper),
-        Err(OutFault::Failed) => 4,
-        Err(OutFault::OutOfMemory) => 7,
+        Err(OutFault::Failed) => READ_FAULT,
+        Err(OutFault::OutOfMemory) => OUT_OF_MEMORY,
     }
 }

@@ -14,6 +14,7 @@ ghost use Rattle.committee_core.specs.declared.stop.Stop.TheVariants as stop;
 ghost use Rattle.committee_core.specs.declared.stop.Ended.TheVariants as ended;
 
 use crate::seals::{laws_of_scenes, program_sealer};
+use crate::status::{DONE, KEEP_FAULT, NO_SCHEDULE, OUT_OF_MEMORY, READ_FAULT, WRITE_FAULT};
 use crate::stop::{Ended, Stop};
 use crate::text::{LONGEST_TEXT, run_text};
 use outside::{Keeper, OutFault, Sink, Source, read_text};
@@ -62,12 +63,12 @@ fn run_read<R: Threads + Sync, K: Sink, D: Keeper>(
     ensures cut { (result ≡ 5) ⊎ (result ≡ 7) → TextCut program_trust (schedule_of text.now) (K.held sink.old) (K.held sink.new) (D.lists keeper.old) (D.lists keeper.new) }
 {
     match run_sealed(rt, alloc, text, sink, keeper) {
-        Ok(Ended::Ran) => 0,
-        Ok(Ended::Refused) => 3,
-        Err(Stop::WriteFault) => 5,
-        Err(Stop::KeepFault) => 6,
-        Err(Stop::BadRecord) => 6,
-        Err(Stop::OutOfMemory) => 7,
+        Ok(Ended::Ran) => DONE,
+        Ok(Ended::Refused) => NO_SCHEDULE,
+        Err(Stop::WriteFault) => WRITE_FAULT,
+        Err(Stop::KeepFault) => KEEP_FAULT,
+        Err(Stop::BadRecord) => KEEP_FAULT,
+        Err(Stop::OutOfMemory) => OUT_OF_MEMORY,
     }
 }
 
@@ -93,7 +94,7 @@ pub(crate) fn run<R: Threads + Sync, S: Source, K: Sink, D: Keeper>(
 {
     match read_text(alloc, LONGEST_TEXT, source) {
         Ok(text) => run_read(rt, alloc, text.as_slice(), sink, keeper),
-        Err(OutFault::Failed) => 4,
-        Err(OutFault::OutOfMemory) => 7,
+        Err(OutFault::Failed) => READ_FAULT,
+        Err(OutFault::OutOfMemory) => OUT_OF_MEMORY,
     }
 }

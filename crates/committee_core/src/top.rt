@@ -12,6 +12,7 @@ use crate::follow::follow;
 use crate::make::make;
 use crate::replay::replay;
 use crate::report::run;
+use crate::status::{BAD_WORDS, OUT_OF_MEMORY};
 use command_words::{Command, command_of, is_parsed};
 use outside::{Keeper, Sink, Source};
 use run_law::generated_text_is_a_schedule;
@@ -141,11 +142,11 @@ pub fn committee<R: Threads + Wait + Sync, S: Source, K: Sink, D: Keeper>(
     ensures ends { Ends (command_in (map string_bytes words.now)) (outside (S.left source.old) (S.faults source.old) (K.held sink.old) (K.faults sink.old) (D.lists keeper.old) (D.failed keeper.old)) (outside (S.left source.new) (S.faults source.new) (K.held sink.new) (K.faults sink.new) (D.lists keeper.new) (D.failed keeper.new)) result }
 {
     let Some(command) = command_of(words) else {
-        return 2;
+        return BAD_WORDS;
     };
     generated_text_is_a_schedule();
     if is_parsed(alloc, words).is_err() {
-        return 7;
+        return OUT_OF_MEMORY;
     }
     obey(rt, alloc, command, source, sink, keeper)
 }

@@ -4,6 +4,7 @@ ghost use Rattle.std.specs.Prelude.{◌≡◌, ◌↔◌, ◌++◌, ◌∷◌, [
 ghost use Rattle.world_core.specs.Looks.{transaction_of};
 ghost use Rattle.committee_core.specs.Follow.{IsVerdict, IsVerdictFrom, asked_at, asked_up, verdict_status, verdict_text, verdict_words};
 
+use crate::status::{DONE, NEGATIVE};
 use chain_types::{Object, Transaction};
 use checkpoint_core::Checkpoint;
 use digest_core::Digest;
@@ -158,12 +159,12 @@ pub(crate) fn verdict_status(verdict: Verdict) -> u8
     ensures { result ≡ verdict_status verdict }
 {
     match verdict {
-        Verdict::Equal { .. } => 0,
+        Verdict::Equal { .. } => DONE,
         Verdict::NoHonest
         | Verdict::Down
         | Verdict::Stuck { .. }
         | Verdict::Differs { .. }
-        | Verdict::Unequal => 8,
+        | Verdict::Unequal => NEGATIVE,
     }
 }
 

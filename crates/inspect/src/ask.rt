@@ -19,6 +19,7 @@ use crate::digests::digests_answer;
 use crate::part::part_of;
 use crate::questions::Question;
 use crate::states::{states_answer, states_at_answer};
+use committee_core::status::{KEEP_FAULT, NO_SCHEDULE, OUT_OF_MEMORY, READ_FAULT, WRITE_FAULT};
 use committee_core::{LONGEST_TEXT, Unrun, refuse, world_behind};
 use outside::{Keeper, OutFault, Sink, Source, read_text, write_all};
 use std::alloc::Global;
@@ -56,8 +57,8 @@ fn say<K: Sink>(answer: &Answer, sink: &mut K) -> u8
 {
     match write_all(sink, answer.text.as_slice()) {
         Ok(()) => answer.status,
-        Err(OutFault::Failed) => 5,
-        Err(OutFault::OutOfMemory) => 7,
+        Err(OutFault::Failed) => WRITE_FAULT,
+        Err(OutFault::OutOfMemory) => OUT_OF_MEMORY,
     }
 }
 
@@ -76,7 +77,7 @@ fn say_of<K: Sink>(
 {
     match answer(alloc, question, text, world) {
         Ok(answer) => say(&answer, sink),
-        Err(OutOfMemory) => 7,
+        Err(OutOfMemory) => OUT_OF_MEMORY,
     }
 }
 
@@ -88,9 +89,9 @@ fn say_refused<K: Sink>(alloc: Global, line: u64, cause: u8, sink: &mut K) -> u8
     ensures cut { (result ≡ 5) ⊎ (result ≡ 7) → AppendsFront (K.held sink.old) (K.held sink.new) (text_of (report_line.Refused line cause)) }
 {
     match refuse(alloc, line, cause, sink) {
-        Ok(()) => 3,
-        Err(OutFault::Failed) => 5,
-        Err(OutFault::OutOfMemory) => 7,
+        Ok(()) => NO_SCHEDULE,
+        Err(OutFault::Failed) => WRITE_FAULT,
+        Err(OutFault::OutOfMemory) => OUT_OF_MEMORY,
     }
 }
 
@@ -120,9 +121,9 @@ fn ask_text<R: Threads + Sync, K: Sink, D: Keeper>(
             status
         }
         Err(Unrun::Refused { line, cause }) => say_refused(alloc, line, cause, sink),
-        Err(Unrun::KeepFault) => 6,
-        Err(Unrun::BadRecord) => 6,
-        Err(Unrun::OutOfMemory) => 7,
+        Err(Unrun::KeepFault) => KEEP_FAULT,
+        Err(Unrun::BadRecord) => KEEP_FAULT,
+        Err(Unrun::OutOfMemory) => OUT_OF_MEMORY,
     }
 }
 
@@ -172,7 +173,7 @@ pub(crate) fn ask<R: Threads + Sync, S: Source, K: Sink, D: Keeper>(
 {
     match read_text(alloc, LONGEST_TEXT, source) {
         Ok(text) => ask_part(rt, alloc, question, text.as_slice(), sink, keeper),
-        Err(OutFault::Failed) => 4,
-        Err(OutFault::OutOfMemory) => 7,
+        Err(OutFault::Failed) => READ_FAULT,
+        Err(OutFault::OutOfMemory) => OUT_OF_MEMORY,
     }
 }

@@ -17,6 +17,7 @@ use crate::answer::Answer;
 use crate::certified::Found;
 use crate::pairs::pairs_text;
 use committee_core::program_sealer;
+use committee_core::status::DONE;
 use quorum_core::Sealer;
 use schedule_text::{Event, ScheduleRefusal, read_schedule};
 use std::alloc::Global;
@@ -86,7 +87,7 @@ fn blame_among(alloc: Global, world: &World, events: &[Event]) -> Result<Answer,
 {
     let sealer = program_sealer();
     let text = blame_lines(alloc, world, &sealer, events)?;
-    Ok(Answer { status: 0, text })
+    Ok(Answer { status: DONE, text })
 }
 
 /// What is answered of the world after a text: who sealed two votes of which an honest member casts at most one. The text is

@@ -13,6 +13,7 @@ use crate::lines::{nobody_line, unsealed_line};
 use crate::sealing::first_unsealed;
 use checkpoint_core::Checkpoint;
 use committee_core::program_sealer;
+use committee_core::status::{DONE, NEGATIVE};
 use light_check::{Chain, encode_chain, make_chain};
 use std::alloc::Global;
 use validator_core::Validator;
@@ -47,7 +48,7 @@ fn sealed_answer(
 {
     let chain = sealed_chain(alloc, checkpoints, members)?;
     Ok(Answer {
-        status: 0,
+        status: DONE,
         text: encode_chain(alloc, &chain)?,
     })
 }
@@ -63,7 +64,7 @@ fn unsealed_answer(
     ensures text { IfOk result (λ a. a.text ≡ unsealed_text member sealer number) }
 {
     Ok(Answer {
-        status: 8,
+        status: NEGATIVE,
         text: unsealed_line(alloc, u64::from(member), u64::from(sealer), number)?,
     })
 }
@@ -74,7 +75,7 @@ fn nobody_answer(alloc: Global, member: u32) -> Result<Answer, OutOfMemory>
     ensures text { IfOk result (λ a. a.text ≡ nobody_text member) }
 {
     Ok(Answer {
-        status: 8,
+        status: NEGATIVE,
         text: nobody_line(alloc, u64::from(member))?,
     })
 }

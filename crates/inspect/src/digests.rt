@@ -10,6 +10,7 @@ use crate::answer::Answer;
 use crate::digest_lines::{add_checkpoint, add_object, add_tx};
 use chain_types::Object;
 use checkpoint_core::Checkpoint;
+use committee_core::status::DONE;
 use std::alloc::Global;
 use validator_core::Validator;
 use wire_bcs::{OutOfMemory, Seq};
@@ -86,7 +87,7 @@ fn alone_answer(alloc: Global, names: &Directory) -> Result<Answer, OutOfMemory>
 {
     let mut text = Seq::new(alloc);
     add_txs(&mut text, names)?;
-    Ok(Answer { status: 0, text })
+    Ok(Answer { status: DONE, text })
 }
 
 /// The lines of the transactions, and those of a member, with status 0.
@@ -102,7 +103,7 @@ fn told_answer(
     add_txs(&mut text, names)?;
     add_checkpoints(alloc, &mut text, validator)?;
     add_shown(&mut text, names, validator)?;
-    Ok(Answer { status: 0, text })
+    Ok(Answer { status: DONE, text })
 }
 
 /// A member, if it is honest and up. Takes no memory.

@@ -32,6 +32,7 @@ mod top;
 
 use crate::top::inspect;
 use committee_core::fresh_keeper;
+use committee_core::status::{BAD_WORDS, KEEP_FAULT, OUT_OF_MEMORY, READ_FAULT, WRITE_FAULT};
 use outside::{Sink, Source};
 use outside_std::{InSource, OutSink};
 use std::alloc::{AllocError, Global};
@@ -52,19 +53,19 @@ fn words_of(rt: &HostRuntime) -> io::Result<Vec<String>> {
 /// The status if the words cannot be had: words that are not UTF-8 are wrong words.
 fn status_of_words(error: &io::Error) -> u8 {
     match error.kind() {
-        io::ErrorKind::InvalidData => 2,
-        _ => 7,
+        io::ErrorKind::InvalidData => BAD_WORDS,
+        _ => OUT_OF_MEMORY,
     }
 }
 
 /// What standard error says of a status.
 fn message(status: u8) -> Option<&'static str> {
     match status {
-        2 => Some("usage: inspect chain M MEMBERS | digests | blame | states [L]"),
-        4 => Some("read fault"),
-        5 => Some("write fault"),
-        6 => Some("keep fault"),
-        7 => Some("want of memory"),
+        BAD_WORDS => Some("usage: inspect chain M MEMBERS | digests | blame | states [L]"),
+        READ_FAULT => Some("read fault"),
+        WRITE_FAULT => Some("write fault"),
+        KEEP_FAULT => Some("keep fault"),
+        OUT_OF_MEMORY => Some("want of memory"),
         _ => None,
     }
 }
@@ -78,7 +79,7 @@ fn in_memory<R: Threads + Sync, S: Source, K: Sink>(
     sink: &mut K,
 ) -> u8 {
     let Ok(mut keeper) = fresh_keeper(rt.alloc(), &[]) else {
-        return 7;
+        return OUT_OF_MEMORY;
     };
     inspect(threads, rt.alloc(), words, source, sink, &mut keeper)
 }
@@ -91,12 +92,12 @@ fn status_of<R: Threads + Sync>(threads: &R, rt: &HostRuntime) -> u8 {
         Err(error) => return status_of_words(&error),
     };
     let Ok(writer) = BufWriter::new(rt.alloc(), io::writer(rt)) else {
-        return 7;
+        return OUT_OF_MEMORY;
     };
     let mut source = InSource::new(rt.reader());
     let mut sink = OutSink::new(writer);
     let status = in_memory(threads, rt, words.as_slice(), &mut source, &mut sink);
-    if sink.finish() { status } else { 5 }
+    if sink.finish() { status } else { WRITE_FAULT }
 }
 
 fn main(rt: HostRuntime) -> ExitCode {

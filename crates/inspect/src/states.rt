@@ -12,6 +12,7 @@ use crate::digests::standing;
 use crate::part::line_count;
 use crate::state_lines::{absent_line, add_shown, no_line_text, standing_line};
 use chain_types::Object;
+use committee_core::status::{DONE, NEGATIVE};
 use std::alloc::Global;
 use validator_core::Validator;
 use wire_bcs::{OutOfMemory, Seq};
@@ -103,7 +104,7 @@ pub(crate) fn states_answer(alloc: Global, world: &World) -> Result<Answer, OutO
     ensures { IfOk result (λ a. SaysStates world.now.known (honest_flags world.now.posts) (states_in world.now.posts) a.status a.text) }
 {
     Ok(Answer {
-        status: 0,
+        status: DONE,
         text: members_text(alloc, world)?,
     })
 }
@@ -114,7 +115,7 @@ fn no_line_answer(alloc: Global, line: u64) -> Result<Answer, OutOfMemory>
     ensures text { IfOk result (λ a. a.text ≡ no_line_text line) }
 {
     Ok(Answer {
-        status: 8,
+        status: NEGATIVE,
         text: no_line_text(alloc, line)?,
     })
 }

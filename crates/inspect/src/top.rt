@@ -9,6 +9,7 @@ ghost use Rattle.inspect.specs.Words.{question_in};
 
 use crate::ask::ask;
 use crate::questions::question_of;
+use committee_core::status::BAD_WORDS;
 use outside::{Keeper, Sink, Source};
 use std::alloc::Global;
 use std::thread::Threads;
@@ -62,6 +63,6 @@ pub fn inspect<R: Threads + Sync, S: Source, K: Sink, D: Keeper>(
 {
     match question_of(words) {
         Some(question) => ask(rt, alloc, &question, source, sink, keeper),
-        None => 2,
+        None => BAD_WORDS,
     }
 }
