@@ -21,7 +21,6 @@ mod desk;
 mod entry;
 mod kept;
 mod law;
-mod scratch;
 mod serial;
 mod standing;
 mod sure;
