@@ -11,7 +11,7 @@ abbrev pub Item : {X A : Type 0} → (X → A) → Place → Place → Result X 
 Item view old new (Ok x) read = read ≡ Ok (view x, new)
 Item view old new (Err f) read = (read ≡ Err (record { place = old; why = f.why })) × (f.at ≡ old.at) × (new ≡ old)
 
--- The first part of an item of two parts: what was read, or only the row of the fault.
+-- The first part of an item of two parts: what was read, or only the number of the fault.
 abbrev pub Within : {X A : Type 0} → (X → A) → Place → Result X WireFault → Read A → Type 0
 Within view new (Ok x) read = read ≡ Ok (view x, new)
 Within view new (Err f) read = (p : Place) × (read ≡ Err (record { place = p; why = f.why }))
@@ -35,7 +35,7 @@ pub record Ahead (old new : Place) : Type 0 where
   pub at : old.at ≤ new.at
   pub end : new.at ≤ length new.input
 
--- nothing is left, or row 7 at the first byte that is left
+-- nothing is left, or fault 7 at the first byte that is left
 abbrev pub Ended : {X : Type 0} → Place → Result X WireFault → Type 0
 Ended p (Ok x) = (length (left p) == 0) ≡ true
 Ended p (Err f) = ((length (left p) == 0) ≡ false) × (f.at ≡ p.at) × (f.why ≡ 7)
