@@ -11,7 +11,7 @@ use crate::transactions::{Argument, Command, Input, SignedTx, Transaction};
 use digest_core::{Digest, TAG_TRANSACTION, digest_of};
 use std::alloc::Global;
 use wire_bcs::{
-    Duplicate, OutOfMemory, Reader, Seq, Unread, Wire, WireFault, Writer, decode, encode,
+    Duplicate, FaultKind, OutOfMemory, Reader, Seq, Unread, Wire, Writer, decode, encode,
 };
 
 #[tactic(auto, using(wire_bcs::specs::Wrote::parts), unfolding(crate::specs::Transactions::input))]
@@ -215,10 +215,7 @@ impl Wire for Command {
             // There is no variant 4.
             _ => {
                 *reader = start;
-                Err(Unread::Wire(WireFault {
-                    at: reader.at(),
-                    why: 6,
-                }))
+                Err(Unread::Wire(reader.fault(FaultKind::NoVariant)))
             }
         }
     }

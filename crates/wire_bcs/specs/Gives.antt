@@ -35,7 +35,7 @@ pub record Ahead (old new : Place) : Type 0 where
   pub at : old.at ≤ new.at
   pub end : new.at ≤ length new.input
 
--- nothing is left, or row 7 at the first byte that is left
+-- nothing is left, or fault 7 at the first byte that is left
 abbrev pub Ended : {X : Type 0} → Place → Result X WireFault → Type 0
 Ended p (Ok x) = (length (left p) == 0) ≡ true
 Ended p (Err f) = ((length (left p) == 0) ≡ false) × (f.at ≡ p.at) × (f.why ≡ 7)

@@ -1,5 +1,5 @@
 -- The items of BCS that are neither lists nor choices. A fault is at the first byte of its item, and its number is that of
--- its row in the table at `WireFault` (src/fault.rt): 1, 2, 5 and 8 come here, 3 and 4 in Uleb, 6 in Tags, 7 in Whole.
+-- its kind at `FaultKind` (src/fault.rt): 1, 2, 5 and 8 come here, 3 and 4 in Uleb, 6 in Tags, 7 in Whole.
 use Rattle.std.specs.Prelude.{◌≡◌, ℕ, ◌^◌, ◌<◌, ◌≤◌, Bool, true, false, cond, nat_lt, ◌==◌, if◌then◌else◌, List, [], ◌∷◌, ◌++◌, length, take, drop, Ok, Err, refl}
 use Rattle.std.specs.Str.{is_utf8}
 use Rattle.std.proofs.Common.{sym, ◌∙◌, ap, subst, inl, inr, arith, append_assoc, add-zero}
@@ -154,7 +154,7 @@ length_limit = 2147483648
 abbrev pub counted_read : Place → Read (List ℕ)
 counted_read p = uleb_below length_limit 5 p >>= λ n. front_read n.0 n.1
 
--- the row of a fault at another place
+-- the number of a fault at another place
 abbrev pub at_front : {A : Type 0} → Place → Read A → Read A
 at_front p (Ok x) = Ok x
 at_front p (Err s) = stop p s.why

@@ -2,6 +2,8 @@
 use Rattle.std.specs.Prelude.{◌≡◌, ℕ, ◌+◌, ◌<◌, List, [], ◌++◌, length, get_or, drop, Result, Ok, Err, refl}
 use Rattle.std.proofs.Common.{sym, ◌∙◌, ap, subst, arith, append_assoc, add-zero}
 use Rattle.std.proofs.lemmas.List.{drop-drop, drop_at, length-append}
+use Rattle.wire_bcs.specs.declared.fault.FaultKind.{FaultKind}
+use Rattle.wire_bcs.specs.declared.fault.FaultKind.TheVariants as kind
 
 -- an input, and how many of its bytes were read
 pub record Place : Type 0 where
@@ -20,7 +22,18 @@ start bytes = record { input = bytes; at = 0 }
 abbrev pub forward : ℕ → Place → Place
 forward n p = record { input = p.input; at = p.at + n }
 
--- the place of the first fault, and the number of its row in the table of faults
+-- the number that a kind of fault has
+abbrev pub number_of_kind : FaultKind → ℕ
+number_of_kind kind.Short = 1
+number_of_kind kind.BadBool = 2
+number_of_kind kind.LongUleb = 3
+number_of_kind kind.LargeUleb = 4
+number_of_kind kind.LargeLength = 5
+number_of_kind kind.NoVariant = 6
+number_of_kind kind.LeftOver = 7
+number_of_kind kind.NotUtf8 = 8
+
+-- the place of the first fault, and the number of its kind
 pub record Stop : Type 0 where
   pub place : Place
   pub why : ℕ

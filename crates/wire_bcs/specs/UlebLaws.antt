@@ -3,6 +3,8 @@ use Rattle.std.specs.Prelude.{◌≡◌, ℕ, zero, suc, ◌+◌, ◌-◌, ◌*�
 use Rattle.std.proofs.Common.{sym, ◌∙◌, ap, subst, inl, inr, arith}
 use Rattle.std.proofs.lemmas.List.{get_or-drop, drop-drop}
 use Rattle.std.proofs.lemmas.Bool.{cases_lt, ltb-true, ltb-false, lt-ltb, le-ltb, eqb-false, ne_eqb}
+use Rattle.wire_bcs.specs.declared.fault.FaultKind.{FaultKind}
+use Rattle.wire_bcs.specs.declared.fault.FaultKind.TheVariants as kind
 use Rattle.wire_bcs.specs.Place.{Place, Takes, IsBytes, left, forward, stop, bind_ok, ok_is}
 use Rattle.wire_bcs.specs.Little.{IsBytes-rest}
 use Rattle.wire_bcs.specs.Uleb.{uleb_in, uleb, behind, uleb_rest, uleb_at, counted, uleb_below}
@@ -22,14 +24,14 @@ room-some zero = omega arith
 room-some (suc more) = let rest = room-some more in omega arith
 
 abbrev Scan : Type 0
-Scan = Result (ℕ × ℕ) ℕ
+Scan = Result (ℕ × ℕ) FaultKind
 
 scan_is : (x y : ℕ × ℕ) → (let r : Scan = Ok x in r) ≡ Ok y → x ≡ y
 scan_is x y e = cc
 
 behind_ok : (b : ℕ) (r : Scan) (y : ℕ × ℕ) → behind b r ≡ Ok y → (x : ℕ × ℕ) × (r ≡ Ok x) × ((b - 128 + 128 * x.0, suc x.1) ≡ y)
 behind_ok b (Ok x) y e = (x, refl, scan_is (b - 128 + 128 * x.0, suc x.1) y e)
-behind_ok b (Err why) y e = absurd cc
+behind_ok b (Err k) y e = absurd cc
 
 pub uleb_in-last : (more n : ℕ) → n < 128 → uleb_in (suc more) n ≡ n ∷ []
 uleb_in-last more n h = let e : nat_lt n 128 ≡ true = lt-ltb n 128 h in rw e refl
@@ -52,10 +54,10 @@ uleb_rest-takes : (more : ℕ) (bytes : List ℕ) (x : ℕ × ℕ) → IsBytes b
 uleb_rest-takes zero [] x fits e = absurd cc
 uleb_rest-takes (suc more) [] x fits e = absurd cc
 uleb_rest-takes zero (b ∷ bytes) x fits e =
-    elim (chosen (b == 0) (Err 3) (cond (nat_lt 15 b) (Err 4) (Ok (b, 1))) (Ok x) e) [
-      | inl p ↦ absurd (let q : Err 3 ≡ Ok x = p.1 in cc)
-      | inr p ↦ elim (chosen (nat_lt 15 b) (Err 4) (Ok (b, 1)) (Ok x) p.1) [
-        | inl q ↦ absurd (let r : Err 4 ≡ Ok x = q.1 in cc)
+    elim (chosen (b == 0) (Err kind.LongUleb) (cond (nat_lt 15 b) (Err kind.LargeUleb) (Ok (b, 1))) (Ok x) e) [
+      | inl p ↦ absurd (let q : Err kind.LongUleb ≡ Ok x = p.1 in cc)
+      | inr p ↦ elim (chosen (nat_lt 15 b) (Err kind.LargeUleb) (Ok (b, 1)) (Ok x) p.1) [
+        | inl q ↦ absurd (let r : Err kind.LargeUleb ≡ Ok x = q.1 in cc)
         | inr q ↦
             let some : 0 < b = omega (arith, eqb-false b 0 p.0) in
             let below : b ≤ 15 = ltb-false 15 b q.0 in
@@ -63,8 +65,8 @@ uleb_rest-takes zero (b ∷ bytes) x fits e =
       ]
     ]
 uleb_rest-takes (suc more) (b ∷ bytes) x fits e =
-    elim (chosen (b == 0) (Err 3) (cond (nat_lt b 128) (Ok (b, 1)) (behind b (uleb_rest more bytes))) (Ok x) e) [
-      | inl p ↦ absurd (let q : Err 3 ≡ Ok x = p.1 in cc)
+    elim (chosen (b == 0) (Err kind.LongUleb) (cond (nat_lt b 128) (Ok (b, 1)) (behind b (uleb_rest more bytes))) (Ok x) e) [
+      | inl p ↦ absurd (let q : Err kind.LongUleb ≡ Ok x = p.1 in cc)
       | inr p ↦ elim (chosen (nat_lt b 128) (Ok (b, 1)) (behind b (uleb_rest more bytes)) (Ok x) p.1) [
         | inl q ↦
             let some : 0 < b = omega (arith, eqb-false b 0 p.0) in
@@ -147,7 +149,7 @@ uleb_at-again n rest below =
 
 counted_ok : (p : Place) (r : Scan) (y : ℕ × Place) → counted p r ≡ Ok y → (x : ℕ × ℕ) × (r ≡ Ok x) × ((x.0, forward x.1 p) ≡ y)
 counted_ok p (Ok x) y e = (x, refl, ok_is (x.0, forward x.1 p) y e)
-counted_ok p (Err why) y e = absurd cc
+counted_ok p (Err k) y e = absurd cc
 
 pub IsBytes-left : (p : Place) → IsBytes p.input → IsBytes (left p)
 IsBytes-left p fits i = rw get_or-drop (fits (p.at + i))

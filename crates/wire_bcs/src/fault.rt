@@ -6,17 +6,49 @@ ghost use Rattle.wire_bcs.specs.declared.fault.Unread.TheVariants as unread;
 use crate::seq::OutOfMemory;
 use std::{error, fmt};
 
-/// The first fault of bytes that are not an encoding: `at` is the offset of its item's first byte, `why`
-/// says what is wrong there. This is the table of the faults; the definitions name its rows by their numbers.
-///
-/// - 1: the input ends inside the item
-/// - 2: a bool byte is neither 0 nor 1
-/// - 3: a ULEB128 of more than one byte ends in a zero byte
-/// - 4: the fifth byte of a ULEB128 is above `0x0f`
-/// - 5: a length is above 2147483647
-/// - 6: there is no variant of this number
-/// - 7: bytes are left over
-/// - 8: the bytes of a text are not UTF-8
+/// What is wrong with an item. The definitions name the kinds by their numbers.
+#[derive(Clone, Copy, Debug)]
+pub enum FaultKind {
+    /// 1: the input ends inside the item.
+    Short,
+    /// 2: a bool byte is neither 0 nor 1.
+    BadBool,
+    /// 3: a ULEB128 of more than one byte ends in a zero byte.
+    LongUleb,
+    /// 4: the fifth byte of a ULEB128 is above `0x0f`.
+    LargeUleb,
+    /// 5: a length is above 2147483647.
+    LargeLength,
+    /// 6: there is no variant of this number.
+    NoVariant,
+    /// 7: bytes are left over.
+    LeftOver,
+    /// 8: the bytes of a text are not UTF-8.
+    NotUtf8,
+}
+
+impl FaultKind {
+    ghost use Rattle.wire_bcs.specs.Place.{number_of_kind};
+
+    /// The number of the kind, from 1 to 8.
+    pub(crate) fn number(self) -> u8
+        ensures { result ≡ number_of_kind self }
+    {
+        match self {
+            FaultKind::Short => 1,
+            FaultKind::BadBool => 2,
+            FaultKind::LongUleb => 3,
+            FaultKind::LargeUleb => 4,
+            FaultKind::LargeLength => 5,
+            FaultKind::NoVariant => 6,
+            FaultKind::LeftOver => 7,
+            FaultKind::NotUtf8 => 8,
+        }
+    }
+}
+
+/// The first fault of bytes that are not an encoding: `at` is the offset of its item's first byte, `why` the number of
+/// its [`FaultKind`].
 #[derive(Clone, Copy, Debug, PartialEq, Eq)]
 pub struct WireFault {
     pub at: u64,

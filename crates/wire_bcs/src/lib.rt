@@ -22,7 +22,7 @@ mod writer;
 pub use ascending::ascends;
 pub use copies::Duplicate;
 pub use encoded::{Encoded, read_encoded};
-pub use fault::{Unread, WireFault};
+pub use fault::{FaultKind, Unread, WireFault};
 pub use reader::Reader;
 pub use seq::{OutOfMemory, Seq};
 pub use wire::{Wire, decode, encode, one_spelling, read, read_is_spelled, spelled_is_read};

@@ -1,13 +1,13 @@
 //! Reading BCS items.
 
 ghost use Rattle.std.specs.Prelude.{◌≡◌, ◌<◌, ◌≤◌, ◌+◌, ◌++◌, List, ℕ, length, IfOk};
-ghost use Rattle.wire_bcs.specs.Place.{IsBytes, Takes, start, left};
+ghost use Rattle.wire_bcs.specs.Place.{IsBytes, Takes, number_of_kind, start, left};
 ghost use Rattle.wire_bcs.specs.Items.{number_read, front_read, bool_read, bytes_read, text_read, counted_read, length_limit};
 ghost use Rattle.wire_bcs.specs.Uleb.{uleb_below, uleb_rest, uleb_at};
 ghost use Rattle.wire_bcs.specs.UlebLaws.{room};
 ghost use Rattle.wire_bcs.specs.Gives.{Item, Within, Ahead, Ended};
 
-use crate::fault::WireFault;
+use crate::fault::{FaultKind, WireFault};
 use std::marker::Model;
 
 /// A place in an input, from which items are read. A refused call leaves the reader where it was, and
@@ -67,12 +67,13 @@ impl<'a> Reader<'a> {
         found
     }
 
-    fn fault(&self, why: u8) -> WireFault
-        ensures { (result.at ≡ self.now.at) × (result.why ≡ why) }
+    /// The fault of this kind, at this place.
+    pub fn fault(&self, kind: FaultKind) -> WireFault
+        ensures { (result.at ≡ self.now.at) × (result.why ≡ number_of_kind kind) }
     {
         WireFault {
             at: self.at as u64,
-            why,
+            why: kind.number(),
         }
     }
 
@@ -86,10 +87,7 @@ impl<'a> Reader<'a> {
         let at = self.at;
         let (_, rest) = self.bytes.split_at(at);
         if rest.len() < count {
-            return Err(WireFault {
-                at: at as u64,
-                why: 1,
-            });
+            return Err(self.fault(FaultKind::Short));
         }
         let (found, _) = rest.split_at(count);
         self.at = at + count;
@@ -166,7 +164,7 @@ impl<'a> Reader<'a> {
         let value = match ahead.u8()? {
             0 => false,
             1 => true,
-            _ => return Err(self.fault(2)),
+            _ => return Err(self.fault(FaultKind::BadBool)),
         };
         *self = ahead;
         Ok(value)
@@ -178,7 +176,7 @@ impl<'a> Reader<'a> {
         ensures ahead { Ahead self.old self.new }
         ensures below { IfOk result (λ n. n < length_limit) }
     {
-        self.uleb(0x8000_0000, 5)
+        self.uleb(0x8000_0000, FaultKind::LargeLength)
     }
 
     /// The next ULEB128 as a variant number below the limit.
@@ -187,12 +185,12 @@ impl<'a> Reader<'a> {
         ensures ahead { Ahead self.old self.new }
         ensures below { IfOk result (λ n. n < limit) }
     {
-        self.uleb(limit, 6)
+        self.uleb(limit, FaultKind::NoVariant)
     }
 
     #[tactic(auto, unfolding(crate::specs::Uleb::uleb_below))]
-    fn uleb(&mut self, limit: u32, why: u8) -> Result<u32, WireFault>
-        ensures item { Item (λ n. n) self.old self.new result (uleb_below limit why self.old) }
+    fn uleb(&mut self, limit: u32, kind: FaultKind) -> Result<u32, WireFault>
+        ensures item { Item (λ n. n) self.old self.new result (uleb_below limit (number_of_kind kind) self.old) }
         ensures ahead { Ahead self.old self.new }
         ensures below { IfOk result (λ n. n < limit) }
     {
@@ -201,12 +199,12 @@ impl<'a> Reader<'a> {
         match uleb_of(rest) {
             Ok((value, count)) => {
                 if value >= limit {
-                    return Err(WireFault { at: at as u64, why });
+                    return Err(self.fault(kind));
                 }
                 self.at = at + count;
                 Ok(value)
             }
-            Err(why) => Err(WireFault { at: at as u64, why }),
+            Err(kind) => Err(self.fault(kind)),
         }
     }
 
@@ -222,7 +220,10 @@ impl<'a> Reader<'a> {
                 *self = ahead;
                 Ok(found)
             }
-            Err(fault) => Err(self.fault(fault.why)),
+            Err(fault) => Err(WireFault {
+                at: self.at(),
+                why: fault.why,
+            }),
         }
     }
 
@@ -247,7 +248,7 @@ impl<'a> Reader<'a> {
                 *self = ahead;
                 Ok(text)
             }
-            Err(_) => Err(self.fault(8)),
+            Err(_) => Err(self.fault(FaultKind::NotUtf8)),
         }
     }
 
@@ -262,19 +263,15 @@ impl<'a> Reader<'a> {
         Ok(cells)
     }
 
-    /// Whether nothing is left; else the fault 7.
+    /// Whether nothing is left; else a fault.
     pub fn finish(&self) -> Result<(), WireFault>
         ensures { Ended self.now result }
     {
-        let at = self.at;
-        let (_, rest) = self.bytes.split_at(at);
+        let (_, rest) = self.bytes.split_at(self.at);
         if rest.is_empty() {
             Ok(())
         } else {
-            Err(WireFault {
-                at: at as u64,
-                why: 7,
-            })
+            Err(self.fault(FaultKind::LeftOver))
         }
     }
 }
@@ -284,13 +281,13 @@ fn are_bytes(bytes: &[u8])
     ensures { IsBytes bytes.now }
 {}
 
-/// The value of the ULEB128 at the start, and how many bytes it has; or the row of its fault.
-fn uleb_of(bytes: &[u8]) -> Result<(u32, usize), u8>
+/// The value of the ULEB128 at the start, and how many bytes it has.
+fn uleb_of(bytes: &[u8]) -> Result<(u32, usize), FaultKind>
     ensures value { result ≡ uleb_at bytes.now }
     ensures count { IfOk result (λ x. x.1 ≤ length bytes.now) }
 {
     match bytes {
-        [] => Err(1),
+        [] => Err(FaultKind::Short),
         [byte, rest @ ..] => {
             let byte = *byte as u32;
             if byte < 128 {
@@ -305,21 +302,25 @@ fn uleb_of(bytes: &[u8]) -> Result<(u32, usize), u8>
 /// The value and the number of the bytes of a ULEB128 after its first one, of which there are at most `more` and one;
 /// or the number of its fault.
 #[tactic(auto, using(crate::proofs::Ulebs::room_small, crate::proofs::Ulebs::room_large))]
-fn uleb_rest_of(bytes: &[u8], more: u32) -> Result<(u32, usize), u8>
+fn uleb_rest_of(bytes: &[u8], more: u32) -> Result<(u32, usize), FaultKind>
     requires { more ≤ 3 }
     ensures value { result ≡ uleb_rest more bytes.now }
     ensures room { IfOk result (λ x. x.0 < room more) }
     ensures count { IfOk result (λ x. x.1 ≤ length bytes.now) }
 {
     match bytes {
-        [] => Err(1),
+        [] => Err(FaultKind::Short),
         [byte, rest @ ..] => {
             let byte = *byte as u32;
             if byte == 0 {
-                return Err(3);
+                return Err(FaultKind::LongUleb);
             }
             if more == 0 {
-                return if byte > 15 { Err(4) } else { Ok((byte, 1)) };
+                return if byte > 15 {
+                    Err(FaultKind::LargeUleb)
+                } else {
+                    Ok((byte, 1))
+                };
             }
             if byte < 128 {
                 return Ok((byte, 1));
