@@ -232,12 +232,13 @@ impl<'a> Wants<'a> {
     pub(crate) fn of(admission: &'a Admission, held: &'a Held) -> Wants<'a>
         ensures { result ≡ wants_of admission.now.admission held.now }
     {
+        let cert = held.cert.get();
         Wants {
             admission,
             tx: &held.digest,
-            gas: Some(held.cert.get().tx.gas.key()),
-            inputs: held.cert.get().tx.inputs.as_slice(),
-            origins: held.cert.get().origins.as_slice(),
+            gas: Some(cert.tx.gas.key()),
+            inputs: cert.tx.inputs.as_slice(),
+            origins: cert.origins.as_slice(),
         }
     }
 

@@ -209,14 +209,11 @@ impl<'a> Task<'a> {
         ensures { IfOk result (λ outcome. outcome ≡ outcome_with self.now.tx objects.now) }
     {
         let inputs = HashedObject::plain(alloc, objects.as_slice())?;
-        if !fits_hashed(
-            &self.held.cert.get().tx,
-            objects.as_slice(),
-            inputs.as_slice(),
-        ) {
+        let cert = self.held.cert.get();
+        if !fits_hashed(&cert.tx, objects.as_slice(), inputs.as_slice()) {
             return Ok(Outcome::Unfit);
         }
-        let gave = execute_hashed(alloc, &self.held.cert.get().tx, &self.held.digest, &inputs)?;
+        let gave = execute_hashed(alloc, &cert.tx, &self.held.digest, &inputs)?;
         Ok(Outcome::Done(gave))
     }
 
