@@ -1,7 +1,7 @@
 use Rattle.std.proofs.Common.{◌≡◌, ◌+◌, ◌≤◌, length, drop}
 use Rattle.indexmap.specs.IndexMap.{spare}
 use Rattle.vote_rules.specs.Holders.{with_holders}
-use Rattle.vote_rules.proofs.held_book.add_holders.Given as goal
+use Rattle.vote_rules.proofs.certificate_store.add_holders.Given as goal
 
 -- there is room for what is left, and adding it gives what adding all gives
 abbrev pub invariant-loop-key : goal.invariant-loop-key

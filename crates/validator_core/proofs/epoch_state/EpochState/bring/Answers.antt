@@ -7,7 +7,7 @@ use Rattle.version_assign.specs.Calls.{with_entry}
 use Rattle.validator_core.specs.Courses.{IsAdmitting, IsSound, WaitsIn, brings, coursed}
 use Rattle.validator_core.proofs.Bringing.{bring_is, bring_sound, brings_with, held_last}
 use Rattle.validator_core.proofs.Coursing.{hold_sound, with_held_now}
-use Rattle.validator_core.proofs.course.EpochState.bring.Goals as goal
+use Rattle.validator_core.proofs.epoch_state.EpochState.bring.Goals as goal
 
 pub returns-then-has-clause-admitting : goal.returns-then-has-clause-admitting
 returns-then-has-clause-admitting c =

@@ -2,7 +2,7 @@ use Rattle.std.proofs.Common.{refl, true}
 use Rattle.protocol_spec.specs.Chain.Certificates.{Rules}
 use Rattle.validator_core.specs.Courses.{sequence_in}
 use Rattle.validator_core.proofs.Bringing.{end_sound, ended_what, weight_what}
-use Rattle.validator_core.proofs.course.EpochState.count_end.Goals as goal
+use Rattle.validator_core.proofs.epoch_state.EpochState.count_end.Goals as goal
 
 pub returns-in-Weight-clause-what : goal.returns-in-Weight-clause-what
 returns-in-Weight-clause-what c =

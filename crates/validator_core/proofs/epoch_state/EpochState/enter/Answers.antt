@@ -2,7 +2,7 @@ use Rattle.std.proofs.Common.{◌∙◌, ap, sym}
 use Rattle.protocol_spec.specs.Chain.Certificates.{Rules}
 use Rattle.validator_core.specs.Courses.{Coursed, sequence_in}
 use Rattle.validator_core.proofs.Bringing.{taken_what}
-use Rattle.validator_core.proofs.course.EpochState.enter.Goals as goal
+use Rattle.validator_core.proofs.epoch_state.EpochState.enter.Goals as goal
 
 pub returns-clause-what : goal.returns-clause-what
 returns-clause-what c =

@@ -7,7 +7,7 @@ use Rattle.exec_plan.specs.declared.waiting.DependencyIndex.{DependencyIndex}
 use Rattle.epoch_turn.specs.Chains.{StartsBehind}
 use Rattle.epoch_turn.specs.Openings.{Opens}
 use Rattle.validator_core.proofs.Coursing.{empty_sound}
-use Rattle.validator_core.proofs.course.EpochState.forget.Goals as goal
+use Rattle.validator_core.proofs.epoch_state.EpochState.forget.Goals as goal
 
 pub returns-clause-sound : goal.returns-clause-sound
 returns-clause-sound c =

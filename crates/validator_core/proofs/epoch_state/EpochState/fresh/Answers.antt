@@ -2,7 +2,7 @@ use Rattle.std.proofs.Common.{ap, false}
 use Rattle.version_assign.specs.Calls.{Admitting}
 use Rattle.version_store.specs.Stores.{Stored}
 use Rattle.validator_core.proofs.Coursing.{empty_sound, opens_apart}
-use Rattle.validator_core.proofs.course.EpochState.fresh.Goals as goal
+use Rattle.validator_core.proofs.epoch_state.EpochState.fresh.Goals as goal
 
 pub returns-clause-sound : goal.returns-clause-sound
 returns-clause-sound c =

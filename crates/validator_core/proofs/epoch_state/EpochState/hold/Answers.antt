@@ -3,7 +3,7 @@ use Rattle.protocol_spec.specs.declared.answers.Held.{Held}
 use Rattle.exec_plan.specs.Waits.{IsWaiting}
 use Rattle.validator_core.specs.Courses.{IsSound}
 use Rattle.validator_core.proofs.Coursing.{hold_sound, with_held_now}
-use Rattle.validator_core.proofs.course.EpochState.hold.Goals as goal
+use Rattle.validator_core.proofs.epoch_state.EpochState.hold.Goals as goal
 use Rattle.protocol_spec.proofs.Truth.{on_ok_then}
 
 pub returns-clause-sound : goal.returns-clause-sound

@@ -4,7 +4,7 @@ use Rattle.epoch_turn.specs.Chains.{IsTold}
 use Rattle.exec_plan.specs.Waits.{IsWaiting}
 use Rattle.validator_core.specs.Courses.{IsUnbuilt}
 use Rattle.validator_core.proofs.Coursing.{let_in_sound, told_now}
-use Rattle.validator_core.proofs.course.EpochState.let_in.Goals as goal
+use Rattle.validator_core.proofs.epoch_state.EpochState.let_in.Goals as goal
 use Rattle.protocol_spec.proofs.Truth.{on_ok_then}
 
 pub returns-clause-unbuilt : goal.returns-clause-unbuilt

@@ -2,7 +2,7 @@ use Rattle.std.proofs.Common.{◌∙◌, ℕ, ap, sym, subst}
 use Rattle.protocol_spec.specs.Chain.Certificates.{Rules}
 use Rattle.validator_core.specs.Courses.{Coursed, IsAdmitting, sequence_in}
 use Rattle.validator_core.proofs.Bringing.{commit_what, mark_is, mark_sound}
-use Rattle.validator_core.proofs.course.EpochState.pass_mark.Goals as goal
+use Rattle.validator_core.proofs.epoch_state.EpochState.pass_mark.Goals as goal
 
 pub let_in-requires-clause-admitting : goal.let_in-requires-clause-admitting
 let_in-requires-clause-admitting c =

@@ -4,7 +4,7 @@ use Rattle.protocol_spec.specs.Member.Sequence.{seen_what}
 use Rattle.validator_core.specs.Courses.{Coursed, sequence_in}
 use Rattle.validator_core.specs.Entries.{what_as}
 use Rattle.validator_core.proofs.Bringing.{numbered_what}
-use Rattle.validator_core.proofs.course.EpochState.see.Goals as goal
+use Rattle.validator_core.proofs.epoch_state.EpochState.see.Goals as goal
 
 pub returns-clause-what : goal.returns-clause-what
 returns-clause-what c =

@@ -6,7 +6,7 @@ use Rattle.validator_core.specs.declared.entries.EntryOutcome.{EntryOutcome}
 use Rattle.validator_core.specs.Courses.{sequence_in}
 use Rattle.validator_core.specs.Entries.{what_as}
 use Rattle.validator_core.proofs.Coursing.{ok_as}
-use Rattle.validator_core.proofs.course.EpochState.take.Goals as goal
+use Rattle.validator_core.proofs.epoch_state.EpochState.take.Goals as goal
 
 pub returns-in-Commits-clause-what : goal.returns-in-Commits-clause-what
 returns-in-Commits-clause-what c =

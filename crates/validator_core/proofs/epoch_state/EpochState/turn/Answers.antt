@@ -7,7 +7,7 @@ use Rattle.version_store.specs.Stores.{Stored}
 use Rattle.epoch_turn.specs.Openings.{Opens}
 use Rattle.validator_core.proofs.Coursing.{fresh_sound}
 use Rattle.validator_core.proofs.Renewing.{reverted_are, turned_is}
-use Rattle.validator_core.proofs.course.EpochState.turn.Goals as goal
+use Rattle.validator_core.proofs.epoch_state.EpochState.turn.Goals as goal
 
 pub returns-clause-sound : goal.returns-clause-sound
 returns-clause-sound c =

@@ -1,7 +1,7 @@
 use Rattle.std.proofs.Common.{◌≡◌, length}
 use Rattle.protocol_spec.specs.Chain.Words.{first_of}
 use Rattle.vote_rules.specs.Holders.{meets}
-use Rattle.vote_rules.proofs.held_book.CertificateStore.fork_with.Given as goal
+use Rattle.vote_rules.proofs.certificate_store.CertificateStore.fork_with.Given as goal
 
 -- no version that was passed is consumed by a held transaction
 abbrev pub invariant-loop-rest : goal.invariant-loop-rest

@@ -2,7 +2,7 @@ use Rattle.std.proofs.Common.{ap, ◌∙◌}
 use Rattle.chain_messages.specs.declared.messages.Certificate.{Certificate}
 use Rattle.chain_types.specs.Digests.{consumed_keys}
 use Rattle.vote_rules.proofs.Holding.{held_more, is_new}
-use Rattle.vote_rules.proofs.held_book.CertificateStore.hold.Goals as goal
+use Rattle.vote_rules.proofs.certificate_store.CertificateStore.hold.Goals as goal
 
 pub note_digest-requires-clause-new : goal.note_digest-requires-clause-new
 note_digest-requires-clause-new c = is_new c.args.held.digest c.in_ok-reserve-2.ensures.keys c.self.invariant.digests_of c.self.view_is c.requires.new

@@ -1,6 +1,6 @@
 use Rattle.vote_rules.proofs.Voting.{unlocked, voted}
 use Rattle.vote_rules.specs.Casts.{casts}
-use Rattle.vote_rules.proofs.vote_book.VoteStore.cast.Goals as goal
+use Rattle.vote_rules.proofs.vote_store.VoteStore.cast.Goals as goal
 
 pub lock_free-requires : goal.lock_free-requires
 lock_free-requires c = unlocked c.self.inside.locks (casts c.self.inside.given.entries) c.args.self.now c.args.digest c.args.consumed c.self.invariant c.self.view_is c.requires.free

@@ -1,6 +1,6 @@
 use Rattle.vote_rules.specs.Casts.{casts}
 use Rattle.vote_rules.proofs.Voting.{decided}
-use Rattle.vote_rules.proofs.vote_book.VoteStore.decide.Goals as goal
+use Rattle.vote_rules.proofs.vote_store.VoteStore.decide.Goals as goal
 
 pub returns : goal.returns
 returns c =
