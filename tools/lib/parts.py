@@ -10,7 +10,7 @@ import collections
 Part = collections.namedtuple("Part", "name words programs unproved early", defaults=((), None, False))
 NOT_RUN = ("not run",)
 COMMITTEE, BOTH, ALL = ("committee",), ("committee", "inspect"), ("committee", "inspect", "validator")
-EXAMPLES = ("example_client", "example_node", "example_file", "example_payment")
+EXAMPLES = ("example_client", "example_file", "example_payment")
 
 PARTS = (
     Part("edits that must fail", ("tools/edits", "--check"), early=True),

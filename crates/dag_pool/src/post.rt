@@ -6,7 +6,7 @@ use steal_board::BoardSeat;
 
 /// What one worker has done so far.
 #[derive(Drop)]
-pub(crate) struct Post<J: Job> {
+pub(crate) struct WorkerState<J: Job> {
     pub(crate) seat: BoardSeat<J>,
     /// The outputs of the tasks that were executed here, each with its task.
     pub(crate) outputs: Vec<(u32, J::Output)>,
@@ -19,7 +19,7 @@ pub(crate) struct Post<J: Job> {
 /// What goes to a thread and comes back.
 #[derive(Drop)]
 pub(crate) struct Shift<J: Job> {
-    pub(crate) post: Post<J>,
+    pub(crate) post: WorkerState<J>,
     /// The worker's own kit.
     pub(crate) kit: Kit,
     /// A kit for each worker that is still to start.

@@ -12,7 +12,7 @@ use crate::crew::Crew;
 use crate::gate::Gate;
 use crate::kit::{Kit, make_kits};
 use crate::order::in_order;
-use crate::post::{Post, Shift};
+use crate::post::{Shift, WorkerState};
 use crate::sweep::sweep;
 use crate::team::run_team;
 use dag_core::{Job, Plan};
@@ -78,7 +78,7 @@ where
         gate,
         workers,
     };
-    let post = Post {
+    let post = WorkerState {
         seat,
         outputs: Vec::with_capacity(alloc, plan.tasks() as usize)?,
         due: Vec::new(alloc),
@@ -141,7 +141,7 @@ fn finish<J: Job, G: Gate>(
     }
     let starved = post.starved;
     let swept = sweep(crew, &mut post)?;
-    let Post {
+    let WorkerState {
         seat,
         outputs,
         due: _,

@@ -7,7 +7,7 @@ ghost use Rattle.dag_pool.specs.Crews.{IsFresh, HasWorked};
 
 use crate::crew::Crew;
 use crate::gate::Gate;
-use crate::post::{Post, Shift};
+use crate::post::{Shift, WorkerState};
 use crate::team::Team;
 use crate::worker::{run_turns, take_dealt};
 use dag_core::Job;
@@ -23,7 +23,7 @@ impl<J: Job, G: Gate> Team<Shift<J>> for Crew<'_, J, G> {
         let Some(kit) = shift.others.pop() else {
             unreachable!();
         };
-        let post = Post {
+        let post = WorkerState {
             seat: self.board.split(&mut shift.post.seat),
             outputs: Vec::new(self.alloc),
             due: Vec::new(self.alloc),
@@ -88,7 +88,11 @@ fn any_of(one: bool, two: bool, three: bool) -> bool
 }
 
 // Joins what two parts of a crew did: seats and outputs. Answers also whether memory was refused for the outputs.
-fn join_posts<J: Job, G>(crew: &Crew<'_, J, G>, first: Post<J>, second: Post<J>) -> (Post<J>, bool)
+fn join_posts<J: Job, G>(
+    crew: &Crew<'_, J, G>,
+    first: WorkerState<J>,
+    second: WorkerState<J>,
+) -> (WorkerState<J>, bool)
     requires first { IsOf crew.now.board.now first.seat }
     requires second { IsOf crew.now.board.now second.seat }
     ensures of { IsOf crew.now.board.now result.0.seat }
@@ -96,20 +100,20 @@ fn join_posts<J: Job, G>(crew: &Crew<'_, J, G>, first: Post<J>, second: Post<J>)
     ensures outputs { result.1 ≡ false → result.0.outputs.items ≡ first.outputs.items ++ second.outputs.items }
     ensures starved { result.0.starved ≡ false → (first.starved ≡ false) × (second.starved ≡ false) }
 {
-    let Post {
+    let WorkerState {
         seat,
         mut outputs,
         due,
         starved,
     } = first;
-    let Post {
+    let WorkerState {
         seat: other,
         outputs: mut more,
         due: _,
         starved: also_starved,
     } = second;
     let refused = outputs.append(&mut more).is_err();
-    let post = Post {
+    let post = WorkerState {
         seat: crew.board.join(seat, other),
         outputs,
         due,

@@ -7,7 +7,7 @@ ghost use Rattle.dag_pool.specs.Crews.{plan_of, IsSwept};
 
 use crate::crew::Crew;
 use crate::gate::Gate;
-use crate::post::Post;
+use crate::post::WorkerState;
 use crate::task::execute;
 use dag_core::Job;
 use steal_board::Claim;
@@ -17,7 +17,7 @@ use wire_bcs::OutOfMemory;
 /// places the seat has gained.
 pub(crate) fn sweep<J: Job, G: Gate>(
     crew: &Crew<'_, J, G>,
-    post: &mut Post<J>,
+    post: &mut WorkerState<J>,
 ) -> Result<u32, OutOfMemory>
     requires { IsSwept crew.now 0 post.old }
     ensures swept { OnOk result (IsSwept crew.now (length (plan_of crew.now).jobs) post.new) }
@@ -36,7 +36,7 @@ pub(crate) fn sweep<J: Job, G: Gate>(
 // Executes a task that is not yet claimed. All earlier tasks are claimed, and so are done.
 fn sweep_one<J: Job, G: Gate>(
     crew: &Crew<'_, J, G>,
-    post: &mut Post<J>,
+    post: &mut WorkerState<J>,
     task: u32,
 ) -> Result<bool, OutOfMemory>
     requires task { task < length (plan_of crew.now).jobs }

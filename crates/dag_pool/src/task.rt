@@ -10,7 +10,7 @@ ghost use Rattle.dag_pool.specs.Crews.{plan_of, HasBegun, IsGood, Notes, Owes};
 
 use crate::crew::Crew;
 use crate::gate::Gate;
-use crate::post::Post;
+use crate::post::WorkerState;
 use dag_core::Job;
 use steal_board::{BoardSeat, Claim};
 use wire_bcs::{OutOfMemory, Seq};
@@ -19,7 +19,7 @@ use wire_bcs::{OutOfMemory, Seq};
 /// the task is not claimed, and the worker is starved.
 pub(crate) fn try_task<J: Job, G: Gate>(
     crew: &Crew<'_, J, G>,
-    post: &mut Post<J>,
+    post: &mut WorkerState<J>,
     task: u32,
 ) -> Result<bool, OutOfMemory>
     requires good { IsGood crew.now post.old }
@@ -49,7 +49,7 @@ pub(crate) fn try_task<J: Job, G: Gate>(
 /// Executes a task that was just claimed, between the two calls of the gate. If memory is refused now, the task is lost.
 pub(crate) fn execute<J: Job, G: Gate>(
     crew: &Crew<'_, J, G>,
-    post: &mut Post<J>,
+    post: &mut WorkerState<J>,
     task: u32,
 ) -> Result<(), OutOfMemory>
     requires { HasBegun crew.now task post.old }
@@ -97,7 +97,7 @@ fn take_inputs<J: Job, G>(
 // Pays a task's outgoing edges with these values.
 fn pay_outputs<J: Job, G>(
     crew: &Crew<'_, J, G>,
-    post: &mut Post<J>,
+    post: &mut WorkerState<J>,
     task: u32,
     values: Seq<J::Value>,
 )
@@ -123,7 +123,12 @@ fn pay_outputs<J: Job, G>(
 }
 
 // Pays one edge. A task that this makes ready is due.
-fn pay_edge<J: Job, G>(crew: &Crew<'_, J, G>, post: &mut Post<J>, place: u32, value: J::Value)
+fn pay_edge<J: Job, G>(
+    crew: &Crew<'_, J, G>,
+    post: &mut WorkerState<J>,
+    place: u32,
+    value: J::Value,
+)
     requires of { IsOf crew.now.board.now post.old.seat }
     requires place { place < length (plan_of crew.now).edges }
     requires claimed { 0 < times (source (plan_of crew.now).edges place) (view post.old.seat).mine }
@@ -140,7 +145,7 @@ fn pay_edge<J: Job, G>(crew: &Crew<'_, J, G>, post: &mut Post<J>, place: u32, va
 }
 
 /// Notes a task that is to be claimed once more. If memory is refused, the worker is starved.
-pub(crate) fn note<J: Job>(post: &mut Post<J>, task: u32)
+pub(crate) fn note<J: Job>(post: &mut WorkerState<J>, task: u32)
     ensures { Notes post.old task post.new }
 {
     match post.due.push(task) {

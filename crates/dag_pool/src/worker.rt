@@ -9,7 +9,7 @@ ghost use Rattle.dag_pool.specs.Crews.{plan_of, IsGood, IsReady, KeepsSeat, Owes
 use crate::crew::Crew;
 use crate::gate::Gate;
 use crate::kit::Kit;
-use crate::post::Post;
+use crate::post::WorkerState;
 use crate::task::{note, try_task};
 use dag_core::Job;
 use steal_deck::{Hand, Stolen};
@@ -18,7 +18,7 @@ use wire_bcs::OutOfMemory;
 /// Executes tasks, until each task that was dealt here or that payments made here brought to readiness is claimed.
 pub(crate) fn run_turns<J: Job, G: Gate>(
     crew: &Crew<'_, J, G>,
-    post: &mut Post<J>,
+    post: &mut WorkerState<J>,
     kit: &mut Kit,
     number: u32,
 ) -> Result<(), OutOfMemory>
@@ -34,7 +34,7 @@ pub(crate) fn run_turns<J: Job, G: Gate>(
 // Executes one task, if there is one to be had.
 fn turn<J: Job, G: Gate>(
     crew: &Crew<'_, J, G>,
-    post: &mut Post<J>,
+    post: &mut WorkerState<J>,
     kit: &mut Kit,
     number: u32,
 ) -> Result<bool, OutOfMemory>
@@ -55,7 +55,7 @@ fn turn<J: Job, G: Gate>(
 // Executes a task from the worker's own deck. A deck has room for each task once.
 fn from_own<J: Job, G: Gate>(
     crew: &Crew<'_, J, G>,
-    post: &mut Post<J>,
+    post: &mut WorkerState<J>,
     kit: &mut Kit,
     number: u32,
 ) -> Result<bool, OutOfMemory>
@@ -77,7 +77,7 @@ fn from_own<J: Job, G: Gate>(
 // Steals once round, and executes what is won.
 fn from_others<J: Job, G: Gate>(
     crew: &Crew<'_, J, G>,
-    post: &mut Post<J>,
+    post: &mut WorkerState<J>,
     kit: &mut Kit,
     number: u32,
 ) -> Result<bool, OutOfMemory>
@@ -108,7 +108,7 @@ fn steal(kit: &mut Kit, place: usize) -> Stolen
 // Executes what was stolen, if it is won.
 fn try_stolen<J: Job, G: Gate>(
     crew: &Crew<'_, J, G>,
-    post: &mut Post<J>,
+    post: &mut WorkerState<J>,
     hand: &mut Hand,
     stolen: Stolen,
     number: u32,
@@ -127,7 +127,7 @@ fn try_stolen<J: Job, G: Gate>(
 // Executes the task that a deck's item names, if it is won. What this makes ready goes on the worker's own deck.
 fn try_item<J: Job, G: Gate>(
     crew: &Crew<'_, J, G>,
-    post: &mut Post<J>,
+    post: &mut WorkerState<J>,
     hand: &mut Hand,
     item: u64,
     number: u32,
@@ -148,7 +148,7 @@ fn try_item<J: Job, G: Gate>(
 // Claims due tasks once more, until one is won. Those that are not are done elsewhere.
 fn from_due<J: Job, G: Gate>(
     crew: &Crew<'_, J, G>,
-    post: &mut Post<J>,
+    post: &mut WorkerState<J>,
     kit: &mut Kit,
     number: u32,
 ) -> Result<bool, OutOfMemory>
@@ -175,7 +175,7 @@ fn offer(hand: &mut Hand, due: &[u32], from: usize) {
 }
 
 /// Notes the tasks that were dealt to the worker of this number.
-pub(crate) fn take_dealt<J: Job, G>(crew: &Crew<'_, J, G>, post: &mut Post<J>, number: u32)
+pub(crate) fn take_dealt<J: Job, G>(crew: &Crew<'_, J, G>, post: &mut WorkerState<J>, number: u32)
     requires fresh { (t : ℕ) → times t (view post.old.seat).ready ≡ 0 }
     requires none { post.old.due.items ≡ [] }
     ensures seat { post.new.seat ≡ post.old.seat }
@@ -193,7 +193,7 @@ pub(crate) fn take_dealt<J: Job, G>(crew: &Crew<'_, J, G>, post: &mut Post<J>, n
 // Notes a task, if it has no incoming edges and is dealt to the worker. Answers whether it has none.
 fn take_if_dealt<J: Job, G>(
     crew: &Crew<'_, J, G>,
-    post: &mut Post<J>,
+    post: &mut WorkerState<J>,
     task: u32,
     sources: u32,
     number: u32,

@@ -1,4 +1,4 @@
--- What contracts see of a `Chain` of checkpoints, and what each of its calls makes of that. Source: Sui Lutris.
+-- What contracts see of a `CheckpointBuilder`, and what each of its calls makes of that. Source: Sui Lutris.
 use Rattle.std.specs.Prelude.{◌≡◌, ℕ, ◌≤◌, ◌-◌, ◌==◌, Bool, not, true, false, List, [], ◌∷◌, ◌++◌, map, take, drop, length, Option, is_some, if◌then◌else◌}
 use Rattle.std.specs.List.{list_all}
 use Rattle.digest_core.specs.declared.Digest.{Digest}

@@ -17,12 +17,12 @@ use wire_bcs::{OutOfMemory, Seq};
 /// The checkpoints of a member, over all its epochs. Contracts see them, and of the present epoch what was admitted,
 /// where it was cut, and how much of it at the start was found done.
 #[derive(Drop)]
-pub struct Chain {
+pub struct CheckpointBuilder {
     rows: Rows,
     alloc: Global,
 }
 
-impl Model for Chain {
+impl Model for CheckpointBuilder {
     ghost use Rattle.epoch_turn.specs.Chains.{Chaining};
     ghost use Rattle.epoch_turn.specs.Kept.{IsKept, shown};
 
@@ -33,13 +33,13 @@ impl Model for Chain {
     ghost invariant = { λ c. IsKept c.rows };
 }
 
-impl Chain {
+impl CheckpointBuilder {
     /// Nothing built, in epoch 0. Takes no memory.
-    pub fn new(alloc: Global) -> Chain
+    pub fn new(alloc: Global) -> CheckpointBuilder
         ensures value { result ≡ nothing_built }
         ensures behind { StartsBehind result }
     {
-        Chain {
+        CheckpointBuilder {
             rows: Rows::new(alloc),
             alloc,
         }

@@ -7,7 +7,7 @@ ghost use Rattle.version_store.specs.Reverts.{reverted_to, undone};
 ghost use Rattle.epoch_turn.specs.Chains.{AreCut, cut_of_chain};
 ghost use Rattle.epoch_turn.specs.Openings.{Opens, change_in, changes_after};
 
-use crate::chain::Chain;
+use crate::chain::CheckpointBuilder;
 use chain_types::{Object, ObjectId};
 use digest_core::Digest;
 use std::alloc::Global;
@@ -17,7 +17,10 @@ use wire_bcs::{OutOfMemory, Seq};
 
 /// Undoes what was executed and stands in no cut, and answers the undone transactions, oldest first (epoch change of Sui
 /// Lutris). If memory is refused the store is not to be used.
-pub fn revert_uncut(chain: &Chain, store: &mut Store) -> Result<Seq<Digest>, OutOfMemory>
+pub fn revert_uncut(
+    chain: &CheckpointBuilder,
+    store: &mut Store,
+) -> Result<Seq<Digest>, OutOfMemory>
     ensures store { OnOk result (store.new ≡ reverted_to (cut_of_chain chain.now) store.old) }
     ensures undone { IfOk result (λ txs. txs ≡ undone (cut_of_chain chain.now) store.old) }
     ensures cut { OnOk result (AreCut chain.now (cut_of_chain chain.now)) }

@@ -6,16 +6,16 @@ ghost use Rattle.protocol_spec.specs.Member.Admission.{Admitted};
 ghost use Rattle.epoch_turn.specs.Chains.{IsTold, StaysBehind};
 ghost use Rattle.epoch_turn.specs.Dues.{due_of};
 
-use crate::chain::Chain;
+use crate::chain::CheckpointBuilder;
 use crate::due::Due;
 use cert_rules::same_origins;
 use digest_core::Digest;
 use version_assign::Admission;
-use vote_rules::HeldBook;
+use vote_rules::CertificateStore;
 use wire_bcs::OutOfMemory;
 
 /// Whether the certificate that is held of a transaction names these origins.
-fn is_same(held: &HeldBook, tx: &Digest, origins: &[Option<Digest>]) -> bool
+fn is_same(held: &CertificateStore, tx: &Digest, origins: &[Option<Digest>]) -> bool
     ensures { (a : Admitted) → a.digest ≡ tx.now → a.cert.origins ≡ origins.now → result ≡ (due_of held.now a).same }
 {
     match held.get(tx) {
@@ -25,7 +25,7 @@ fn is_same(held: &HeldBook, tx: &Digest, origins: &[Option<Digest>]) -> bool
 }
 
 /// What a chain keeps of the transaction that was admitted at a place; none past the last.
-fn due_at(held: &HeldBook, admission: &Admission, place: usize) -> Option<Due>
+fn due_at(held: &CertificateStore, admission: &Admission, place: usize) -> Option<Due>
     ensures { result ≡ option_map (due_of held.now) (slice_get admission.now.admission.admitted place) }
 {
     let tx = admission.admitted_at(place)?;
@@ -38,8 +38,8 @@ fn due_at(held: &HeldBook, admission: &Admission, place: usize) -> Option<Due>
 
 /// Reports to the chain the transaction that was admitted at a place.
 fn tell_one(
-    chain: &mut Chain,
-    held: &HeldBook,
+    chain: &mut CheckpointBuilder,
+    held: &CertificateStore,
     admission: &Admission,
     place: usize,
 ) -> Result<(), OutOfMemory>
@@ -61,8 +61,8 @@ fn tell_one(
 /// Reports to the chain the transactions that were admitted from a place on. If memory is refused it knows of some
 /// of them.
 pub fn tell(
-    chain: &mut Chain,
-    held: &HeldBook,
+    chain: &mut CheckpointBuilder,
+    held: &CertificateStore,
     admission: &Admission,
     from: usize,
 ) -> Result<(), OutOfMemory>

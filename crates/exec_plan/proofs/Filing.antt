@@ -19,7 +19,7 @@ use Rattle.protocol_spec.specs.Chain.Words.{Has}
 use Rattle.protocol_spec.specs.Member.Admission.{Admission}
 use Rattle.protocol_spec.specs.Member.Rounds.{Wanted, left}
 use Rattle.version_store.specs.Stores.{Stored}
-use Rattle.exec_plan.specs.declared.waiting.Waiting.{Waiting}
+use Rattle.exec_plan.specs.declared.waiting.DependencyIndex.{DependencyIndex}
 use Rattle.exec_plan.specs.Behind.{Frees, KeepsListed, Lists, StaysListed, is_among, listed}
 use Rattle.exec_plan.specs.Books.{books_of, is_let, left_in}
 use Rattle.exec_plan.specs.Steps.{left_after}
@@ -57,18 +57,18 @@ placed_keeps (q ∷ qs) p k has = go (nat_cmp p q) has (placed_keeps qs p k)
 -- ---- what stands where
 
 -- what is kept stays
-pub filed_kept : (s : Stored) (a : Admission) (loose : List ℕ) (old new : Waiting) (place : ℕ) (h : Held) → KeepsPlaces old new → Filed s a loose old place h → Filed s a loose new place h
+pub filed_kept : (s : Stored) (a : Admission) (loose : List ℕ) (old new : DependencyIndex) (place : ℕ) (h : Held) → KeepsPlaces old new → Filed s a loose old place h → Filed s a loose new place h
 filed_kept s a loose old new place h kept (was_run is) = was_run is
 filed_kept s a loose old new place h kept (is_unadmitted out has) = is_unadmitted out (kept.unadmitted h.digest place has)
 filed_kept s a loose old new place h kept (comes_next may has made) = comes_next may (kept.next place has) made
 filed_kept s a loose old new place h kept (is_behind may b) = is_behind may (record { maker = b.maker; listed = kept.listed b.maker place b.listed; makes = b.makes; first = b.first })
 filed_kept s a loose old new place h kept (is_loose has) = is_loose has
 
-pub all_kept : (s : Stored) (a : Admission) (held : List Held) (old new : Waiting) → KeepsPlaces old new → IsWaiting s a held old → IsWaiting s a held new
+pub all_kept : (s : Stored) (a : Admission) (held : List Held) (old new : DependencyIndex) → KeepsPlaces old new → IsWaiting s a held old → IsWaiting s a held new
 all_kept s a held old new kept filed = record { at = λ place h is. filed_kept s a [] old new place h kept (filed.at place h is) }
 
 -- one more certificate, which is filed
-pub one_more : (s : Stored) (a : Admission) (held : List Held) (h : Held) (old new : Waiting) → KeepsPlaces old new → IsWaiting s a held old → Filed s a [] new (length held) h → IsWaiting s a (held ++ h ∷ []) new
+pub one_more : (s : Stored) (a : Admission) (held : List Held) (h : Held) (old new : DependencyIndex) → KeepsPlaces old new → IsWaiting s a held old → Filed s a [] new (length held) h → IsWaiting s a (held ++ h ∷ []) new
 one_more s a held h old new kept filed last = record { at = stands }
   where
     go : (Stands : Type 0) (k : Held) (hs : List Held) (n : ℕ) → slice_get (hs ++ h ∷ []) n ≡ Some k → (slice_get hs n ≡ Some k → Stands) → (n ≡ length hs → h ≡ k → Stands) → Stands
@@ -84,7 +84,7 @@ one_more s a held h old new kept filed last = record { at = stands }
         (λ far is. subst (λ (j : Held). Filed s a [] new place j) is (subst (λ n. Filed s a [] new n h) (sym far) last))
 
 -- one place fewer is still to be filed
-pub one_filed : (s : Stored) (a : Admission) (held : List Held) (p : ℕ) (ps : List ℕ) (old new : Waiting) → KeepsPlaces old new → ((h : Held) → slice_get held p ≡ Some h → Filed s a [] new p h)
+pub one_filed : (s : Stored) (a : Admission) (held : List Held) (p : ℕ) (ps : List ℕ) (old new : DependencyIndex) → KeepsPlaces old new → ((h : Held) → slice_get held p ≡ Some h → Filed s a [] new p h)
     → IsFiled s a (p ∷ ps) held old → IsFiled s a ps held new
 one_filed s a held p ps old new kept here filed = record { at = λ place h is. go place h is (filed_kept s a (p ∷ ps) old new place h kept (filed.at place h is)) }
   where
@@ -104,7 +104,7 @@ one_filed s a held p ps old new kept here filed = record { at = λ place h is. g
     go place h at (is_loose (inr has)) = is_loose has
 
 -- the first of the places that are left
-pub front_filed : (s : Stored) (a : Admission) (held : List Held) (rest : List ℕ) (old new : Waiting) → KeepsPlaces old new
+pub front_filed : (s : Stored) (a : Admission) (held : List Held) (rest : List ℕ) (old new : DependencyIndex) → KeepsPlaces old new
     → ((h : Held) → slice_get held (slice_index rest 0) ≡ Some h → Filed s a [] new (slice_index rest 0) h) → 1 ≤ length rest → IsFiled s a rest held old
     → IsFiled s a (take (length rest - 1) (drop 1 rest)) held new
 front_filed s a held [] old new kept here some filed = absurd (omega (arith, some))
@@ -113,7 +113,7 @@ front_filed s a held (p ∷ ps) old new kept here some filed = subst (λ (qs : L
 -- ---- after an admission
 
 -- the places of the newly admitted are to be filed, and all else stands where it stood
-pub woken : (s : Stored) (after : Admission) (txs : List Digest) (held : List Held) (old new : Waiting) (freed : List ℕ) → StoodBefore s after txs held old → new.next.keys ≡ old.next.keys
+pub woken : (s : Stored) (after : Admission) (txs : List Digest) (held : List Held) (old new : DependencyIndex) (freed : List ℕ) → StoodBefore s after txs held old → new.next.keys ≡ old.next.keys
     → new.behind.entries ≡ old.behind.entries → Frees old.unadmitted.entries new.unadmitted.entries freed [] txs → IsFiled s after freed held new
 woken s after txs held old new freed stood next behind frees = record { at = λ place h at. go place h (stood.waits.at place h at) }
   where
@@ -140,7 +140,7 @@ woken s after txs held old new freed stood next behind frees = record { at = λ 
 -- ---- what a run leaves
 
 -- one that waits for a transaction, or is executed, is not left
-pub open_or_stays : (s : Stored) (a : Admission) (held : List Held) (w : Waiting) → IsWaiting s a held w → (place : ℕ) (h : Held) → slice_get held place ≡ Some h
+pub open_or_stays : (s : Stored) (a : Admission) (held : List Held) (w : DependencyIndex) → IsWaiting s a held w → (place : ℕ) (h : Held) → slice_get held place ≡ Some h
     → Has w.next.keys place ⊎ (left_in s a h ≡ None)
 open_or_stays s a held w filed place h at = go (filed.at place h at)
   where
@@ -209,7 +209,7 @@ front_freed old mid new freed more d (y ∷ ys) all some frees is others =
 
 -- ---- the calls
 
-pub nothing_waits : (s : Stored) (a : Admission) (w : Waiting) → IsWaiting s a [] w
+pub nothing_waits : (s : Stored) (a : Admission) (w : DependencyIndex) → IsWaiting s a [] w
 nothing_waits s a w = record { at = λ place h is. absurd (none place h is) }
   where
     none : (place : ℕ) (h : Held) → slice_get [] place ≡ Some h → ⊥
@@ -220,6 +220,6 @@ on_err (Ok x) p = tt
 on_err (Err e) p = p
 
 -- those left of the places that wait for nothing
-pub left_now : (s : Stored) (a : Admission) (held : List Held) (w : Waiting) (places : List ℕ) → IsWaiting s a held w → IsStrictlySortedBy nat_cmp places → places ≡ w.next.keys
+pub left_now : (s : Stored) (a : Admission) (held : List Held) (w : DependencyIndex) (places : List ℕ) → IsWaiting s a held w → IsStrictlySortedBy nat_cmp places → places ≡ w.next.keys
     → left_after s a held [] places ≡ left (books_of s a held) s.executed
 left_now s a held w places filed sorted same = left_of_places s a held places sorted (λ i h at. subst (λ ps. Has ps i ⊎ (left_in s a h ≡ None)) (sym same) (open_or_stays s a held w filed i h at))

@@ -10,7 +10,7 @@ use Rattle.version_store.specs.Stores.{Stored}
 use Rattle.dag_core.specs.declared.plan.Edge.{Edge}
 use Rattle.dag_core.specs.Values.{outputs}
 use Rattle.exec_plan.specs.declared.task.Outcome.{Outcome}
-use Rattle.exec_plan.specs.declared.waiting.Waiting.{Waiting}
+use Rattle.exec_plan.specs.declared.waiting.DependencyIndex.{DependencyIndex}
 use Rattle.exec_plan.specs.Ahead.{AreParked}
 use Rattle.exec_plan.specs.Books.{AreApart, IsSound, books_of}
 use Rattle.exec_plan.specs.Keeping.{CanBeKept}
@@ -45,7 +45,7 @@ module _ (s : Stored) (a : Admission) (held : List Held) (tasks sliced : List Pl
       ∙ ap (kept_of s.opening s.executed (tasks_of b s.executed)) outs_are
       ∙ keeps_rounds b s.executed apart
 
-  pub files : (taken places : List ℕ) (w : Waiting) (t : Stored) → places ≡ taken → t ≡ with_executions s (kept_of s.opening s.executed sliced among) → AreParked s a (planned_of b s.executed) taken held w → IsFiled t a places held w
+  pub files : (taken places : List ℕ) (w : DependencyIndex) (t : Stored) → places ≡ taken → t ≡ with_executions s (kept_of s.opening s.executed sliced among) → AreParked s a (planned_of b s.executed) taken held w → IsFiled t a places held w
   files taken places w t opened written parked =
       subst (λ ps. IsFiled t a ps held w) (sym opened)
       (subst (λ (u : Stored). IsFiled u a taken held w) (sym (written ∙ ap (with_executions s) kept_is))

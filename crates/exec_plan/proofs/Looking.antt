@@ -21,7 +21,7 @@ use Rattle.protocol_spec.specs.Member.Admission.{Admission}
 use Rattle.protocol_spec.specs.Member.Rounds.{Books, Wanted, is_maker_done, wants_of}
 use Rattle.version_store.proofs.Based.{any_both}
 use Rattle.version_store.specs.Stores.{Stored}
-use Rattle.exec_plan.specs.declared.waiting.Waiting.{Waiting}
+use Rattle.exec_plan.specs.declared.waiting.DependencyIndex.{DependencyIndex}
 use Rattle.exec_plan.specs.Ahead.{Agrees, AreParked, AreTaken, Parked, has_run, joining, joins_now, joins_of, lacks_admission, layer_places, waits_behind, was_taken, with_digest}
 use Rattle.exec_plan.specs.Behind.{Frees, Lists, StaysListed, is_among, listed}
 use Rattle.exec_plan.specs.Books.{AreApart, books_of, digest_of_held, is_let}
@@ -191,7 +191,7 @@ module _ (s : Stored) (a : Admission) (all : List Held) where
 
   -- ---- which certificates wait for nothing
 
-  open_or_rests : (w : Waiting) → IsWaiting s a all w → (place : ℕ) (h : Held) → slice_get all place ≡ Some h → Has w.next.keys place ⊎ (joins_now s a h ≡ false)
+  open_or_rests : (w : DependencyIndex) → IsWaiting s a all w → (place : ℕ) (h : Held) → slice_get all place ≡ Some h → Has w.next.keys place ⊎ (joins_now s a h ≡ false)
   open_or_rests w filed place h at = go (filed.at place h at)
     where
       and_false : (b : Bool) → (b && false) ≡ false
@@ -215,7 +215,7 @@ module _ (s : Stored) (a : Admission) (all : List Held) where
           either false c = refl
       go (is_loose has) = absurd has
 
-  pub layer_now : (w : Waiting) (places : List ℕ) → IsWaiting s a all w → IsStrictlySortedBy nat_cmp places → places ≡ w.next.keys → picked all (layer_places s a all places) ≡ filter (joins_now s a) all
+  pub layer_now : (w : DependencyIndex) (places : List ℕ) → IsWaiting s a all w → IsStrictlySortedBy nat_cmp places → places ≡ w.next.keys → picked all (layer_places s a all places) ≡ filter (joins_now s a) all
   layer_now w places filed sorted same = layer_of_places places sorted (λ i h at. subst (λ ps. Has ps i ⊎ (joins_now s a h ≡ false)) (sym same) (open_or_rests w filed i h at))
 
 -- ---- the loop over a layer
@@ -294,7 +294,7 @@ module _ (s : Stored) (a : Admission) (held : List Held) (txs : List Digest) whe
           (ap (λ c. not c && is_let a h && are_made before.executed a h) out ∙ ap (λ c. c && are_made before.executed a h) may ∙ made))
 
   -- each certificate that waited for one of the layer is to be filed, and all else stands where it stood
-  pub layer_filed : (old mid new : Waiting) (freed : List ℕ) → IsWaiting before a held old → mid.unadmitted.entries ≡ old.unadmitted.entries → mid.behind.entries ≡ old.behind.entries
+  pub layer_filed : (old mid new : DependencyIndex) (freed : List ℕ) → IsWaiting before a held old → mid.unadmitted.entries ≡ old.unadmitted.entries → mid.behind.entries ≡ old.behind.entries
       → new.unadmitted.entries ≡ mid.unadmitted.entries → Frees mid.behind.entries new.behind.entries freed [] names → IsFiled after a freed held new
   layer_filed old mid new freed filed out same still frees = record { at = λ place h at. go place h at (filed.at place h at) }
     where
@@ -315,7 +315,7 @@ module _ (s : Stored) (a : Admission) (held : List Held) (txs : List Digest) whe
       go place h at (is_loose has) = absurd has
 
   -- the places of the layer were taken
-  pub layer_taken : AreApart held → (old : Waiting) (taken looked : List ℕ) → IsWaiting before a held old → looked ≡ old.next.keys → AreTaken held txs taken → AreTaken held more (taken ++ looked)
+  pub layer_taken : AreApart held → (old : DependencyIndex) (taken looked : List ℕ) → IsWaiting before a held old → looked ≡ old.next.keys → AreTaken held txs taken → AreTaken held more (taken ++ looked)
   layer_taken apart old taken looked filed is were place h at named = either (or_true (list_any (digest_eq h.digest) txs) (list_any (digest_eq h.digest) names) (sym (all_named names txs h.digest) ∙ named))
     where
       opened : Has old.next.keys place ⊎ (joins_now before a h ≡ false) → joins_now before a h ≡ true → Has (taken ++ looked) place
@@ -333,7 +333,7 @@ picked_join held xs ys = filter_map-append (slice_get held) xs ys
 
 -- ---- what the calls for a layer say
 
-pub layer_found : (s : Stored) (a : Admission) (held : List Held) (w : Waiting) (past : Stored) (looked sliced layer : List ℕ) → past ≡ s → sliced ≡ looked → layer ≡ layer_places past a held sliced → IsWaiting s a held w
+pub layer_found : (s : Stored) (a : Admission) (held : List Held) (w : DependencyIndex) (past : Stored) (looked sliced layer : List ℕ) → past ≡ s → sliced ≡ looked → layer ≡ layer_places past a held sliced → IsWaiting s a held w
     → IsStrictlySortedBy nat_cmp looked → looked ≡ w.next.keys → picked held layer ≡ joining s a held
 layer_found s a held w past looked sliced places is same found filed sorted opened =
     ap (picked held) (found ∙ ap (λ (t : Stored). layer_places t a held sliced) is ∙ ap (layer_places s a held) same)
@@ -407,7 +407,7 @@ module _ (s : Stored) (a : Admission) (held : List Held) where
 
   -- ---- after a plan
 
-  pub parks : (txs : List Digest) (planned : List Held) (old new : Waiting) (taken looked all : List ℕ) → Agrees txs planned → IsWaiting (as_if txs s) a held old → AreTaken held txs taken
+  pub parks : (txs : List Digest) (planned : List Held) (old new : DependencyIndex) (taken looked all : List ℕ) → Agrees txs planned → IsWaiting (as_if txs s) a held old → AreTaken held txs taken
       → looked ≡ old.next.keys → new.unadmitted.entries ≡ old.unadmitted.entries → new.behind.entries ≡ old.behind.entries → all ≡ taken ++ looked → AreParked s a planned all held new
   parks txs planned old new taken looked all agrees filed were opened out same is = record { at = λ place h at. subst (λ ps. Parked s a planned ps new place h) (sym is) (go place h at (filed.at place h at)) }
     where
@@ -439,7 +439,7 @@ module _ (s : Stored) (a : Admission) (held : List Held) where
       go place h at (is_loose has) = absurd has
 
   -- once some of the planned are executed, only the places that were taken are to be filed
-  pub unparks : (planned : List Held) (kept : List Execution) (taken : List ℕ) (w : Waiting) → ((tx : Digest) → is_executed kept tx ≡ true → is_planned planned tx ≡ true) → AreParked s a planned taken held w
+  pub unparks : (planned : List Held) (kept : List Execution) (taken : List ℕ) (w : DependencyIndex) → ((tx : Digest) → is_executed kept tx ≡ true → is_planned planned tx ≡ true) → AreParked s a planned taken held w
       → IsFiled (with_executions s kept) a taken held w
   unparks planned kept taken w among parked = record { at = λ place h at. go place h (parked.at place h at) }
     where

@@ -8,7 +8,7 @@ use Rattle.protocol_spec.specs.Chain.Words.{Has}
 use Rattle.protocol_spec.specs.Member.Versions.{is_executed}
 use Rattle.protocol_spec.specs.Member.Admission.{Admission}
 use Rattle.version_store.specs.Stores.{Stored}
-use Rattle.exec_plan.specs.declared.waiting.Waiting.{Waiting}
+use Rattle.exec_plan.specs.declared.waiting.DependencyIndex.{DependencyIndex}
 use Rattle.exec_plan.specs.Behind.{listed}
 use Rattle.exec_plan.specs.Books.{is_let}
 use Rattle.exec_plan.specs.Layers.{is_planned}
@@ -46,12 +46,12 @@ AreTaken held txs taken = (place : ℕ) (h : Held) → slice_get held place ≡ 
 
 -- where a held certificate is after a plan: it is executed; or filed until it is admitted; or filed under a
 -- transaction that makes what it wants and is neither executed nor planned; or taken out of the lists for the plan
-pub data Parked (s : Stored) (a : Admission) (planned : List Held) (taken : List ℕ) (w : Waiting) (place : ℕ) (h : Held) : Type 0 where
+pub data Parked (s : Stored) (a : Admission) (planned : List Held) (taken : List ℕ) (w : DependencyIndex) (place : ℕ) (h : Held) : Type 0 where
   has_run : is_executed s.executed h.digest ≡ true → Parked s a planned taken w place h
   lacks_admission : is_let a h ≡ false → Has (listed w.unadmitted.entries h.digest) place → Parked s a planned taken w place h
   waits_behind : is_let a h ≡ true → (b : IsBehind s.executed a w place h) → is_planned planned b.maker ≡ false → Parked s a planned taken w place h
   was_taken : Has taken place → Parked s a planned taken w place h
 
 -- each held certificate is in one of these cases
-pub record AreParked (s : Stored) (a : Admission) (planned : List Held) (taken : List ℕ) (held : List Held) (w : Waiting) : Type 0 where
+pub record AreParked (s : Stored) (a : Admission) (planned : List Held) (taken : List ℕ) (held : List Held) (w : DependencyIndex) : Type 0 where
   pub at : (place : ℕ) (h : Held) → slice_get held place ≡ Some h → Parked s a planned taken w place h

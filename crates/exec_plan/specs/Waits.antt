@@ -6,13 +6,13 @@ use Rattle.protocol_spec.specs.Chain.Words.{Has}
 use Rattle.protocol_spec.specs.Member.Versions.{Execution, is_executed}
 use Rattle.protocol_spec.specs.Member.Admission.{Admission, Admitted, digest_of_admitted}
 use Rattle.version_store.specs.Stores.{Stored}
-use Rattle.exec_plan.specs.declared.waiting.Waiting.{Waiting}
+use Rattle.exec_plan.specs.declared.waiting.DependencyIndex.{DependencyIndex}
 use Rattle.exec_plan.specs.Behind.{KeepsListed, listed}
 use Rattle.exec_plan.specs.Books.{is_let}
 use Rattle.exec_plan.specs.Makers.{Makes, are_made}
 
 -- the place is listed under a transaction that is not executed and makes what the certificate wants
-pub record IsBehind (executed : List Execution) (a : Admission) (w : Waiting) (place : ℕ) (h : Held) : Type 0 where
+pub record IsBehind (executed : List Execution) (a : Admission) (w : DependencyIndex) (place : ℕ) (h : Held) : Type 0 where
   pub maker : Digest
   pub listed : Has (listed w.behind.entries maker) place
   pub makes : Makes maker a h
@@ -21,7 +21,7 @@ pub record IsBehind (executed : List Execution) (a : Admission) (w : Waiting) (p
 -- where a held certificate is filed: nowhere, if it is executed; under its own transaction, until that is admitted;
 -- for the next run, if all that makes what it wants is executed; under a transaction that is not executed; or nowhere
 -- yet, if its place is loose: still to be filed
-pub data Filed (s : Stored) (a : Admission) (loose : List ℕ) (w : Waiting) (place : ℕ) (h : Held) : Type 0 where
+pub data Filed (s : Stored) (a : Admission) (loose : List ℕ) (w : DependencyIndex) (place : ℕ) (h : Held) : Type 0 where
   was_run : is_executed s.executed h.digest ≡ true → Filed s a loose w place h
   is_unadmitted : is_let a h ≡ false → Has (listed w.unadmitted.entries h.digest) place → Filed s a loose w place h
   comes_next : is_let a h ≡ true → Has w.next.keys place → are_made s.executed a h ≡ true → Filed s a loose w place h
@@ -29,15 +29,15 @@ pub data Filed (s : Stored) (a : Admission) (loose : List ℕ) (w : Waiting) (pl
   is_loose : Has loose place → Filed s a loose w place h
 
 -- each held certificate is filed, or loose
-pub record IsFiled (s : Stored) (a : Admission) (loose : List ℕ) (held : List Held) (w : Waiting) : Type 0 where
+pub record IsFiled (s : Stored) (a : Admission) (loose : List ℕ) (held : List Held) (w : DependencyIndex) : Type 0 where
   pub at : (place : ℕ) (h : Held) → slice_get held place ≡ Some h → Filed s a loose w place h
 
 -- each held certificate is filed
-abbrev pub IsWaiting : Stored → Admission → List Held → Waiting → Type 0
+abbrev pub IsWaiting : Stored → Admission → List Held → DependencyIndex → Type 0
 IsWaiting s a held w = IsFiled s a [] held w
 
 -- nothing was taken out of a list
-pub record KeepsPlaces (old new : Waiting) : Type 0 where
+pub record KeepsPlaces (old new : DependencyIndex) : Type 0 where
   pub next : (place : ℕ) → Has old.next.keys place → Has new.next.keys place
   pub unadmitted : KeepsListed old.unadmitted.entries new.unadmitted.entries
   pub listed : KeepsListed old.behind.entries new.behind.entries
@@ -51,7 +51,7 @@ pub record Admits (before after : Admission) (txs : List Digest) : Type 0 where
   pub named : txs ≡ map digest_of_admitted more
 
 -- each held certificate was filed for the admission before these transactions were admitted
-pub record StoodBefore (s : Stored) (after : Admission) (txs : List Digest) (held : List Held) (w : Waiting) : Type 0 where
+pub record StoodBefore (s : Stored) (after : Admission) (txs : List Digest) (held : List Held) (w : DependencyIndex) : Type 0 where
   pub before : Admission
   pub admits : Admits before after txs
   pub waits : IsWaiting s before held w

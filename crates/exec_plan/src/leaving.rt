@@ -9,8 +9,8 @@ ghost use Rattle.exec_plan.specs.Waits.{IsWaiting};
 
 use crate::inputs::{first_missing, is_let};
 use crate::makers::awaited;
-use crate::past::Past;
-use crate::waiting::Waiting;
+use crate::past::PlannedView;
+use crate::waiting::DependencyIndex;
 use digest_core::Digest;
 use indexmap::IndexSet;
 use protocol_spec::{Held, Left};
@@ -61,7 +61,7 @@ fn left_one(alloc: Global, store: &Store, admission: &Admission, held: &Held) ->
         return None;
     }
     let none = IndexSet::new(alloc);
-    if awaited(&Past::of(store, &none), admission, held).is_some() {
+    if awaited(&PlannedView::of(store, &none), admission, held).is_some() {
         return None;
     }
     Some(Left {
@@ -125,7 +125,7 @@ pub fn left(
     alloc: Global,
     store: &Store,
     admission: &Admission,
-    waiting: &Waiting,
+    waiting: &DependencyIndex,
     held: &[Held],
 ) -> Result<Seq<Left>, OutOfMemory>
     requires waiting { IsWaiting store.now admission.now.admission held.now waiting.now }

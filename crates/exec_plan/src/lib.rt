@@ -4,7 +4,7 @@
 //! ready after the rounds before it, in order of holding, and reads the store as it was before the round.
 //! A certificate with a shared input runs once it is admitted, and reads the version that admission
 //! assigned. [`left`] says which certificates a run leaves although all that they waited for is executed.
-//! A [`Waiting`] keeps the places of the held certificates that are not executed: under their own
+//! A [`DependencyIndex`] keeps the places of the held certificates that are not executed: under their own
 //! transaction until that is admitted, and then under a transaction that makes what they want. A run looks
 //! at those that wait for nothing, and at those that wait for what it plans.
 //!
@@ -40,4 +40,4 @@ pub use pooled::run_pooled;
 pub use ready::{Ready, plan_ready};
 pub use settled::{run_planned, settle};
 pub use task::{Carry, Outcome, Slot, Task, Want};
-pub use waiting::Waiting;
+pub use waiting::DependencyIndex;

@@ -11,12 +11,12 @@ use version_store::Store;
 
 /// A store, and transactions that are planned. Contracts see the store as if these had been executed.
 #[derive(Drop)]
-pub(crate) struct Past<'a> {
+pub(crate) struct PlannedView<'a> {
     store: &'a Store,
     planned: &'a IndexSet<Digest>,
 }
 
-impl<'a> Model for Past<'a> {
+impl<'a> Model for PlannedView<'a> {
     ghost use Rattle.version_store.specs.Stores.{Stored};
     ghost use Rattle.exec_plan.specs.Past.{as_if};
 
@@ -25,20 +25,20 @@ impl<'a> Model for Past<'a> {
     ghost view = { λ p. as_if p.planned.now.keys p.store.now };
 }
 
-impl<'a> Past<'a> {
+impl<'a> PlannedView<'a> {
     /// The store as if these transactions had been executed.
-    pub(crate) fn new(store: &'a Store, planned: &'a IndexSet<Digest>) -> Past<'a>
+    pub(crate) fn new(store: &'a Store, planned: &'a IndexSet<Digest>) -> PlannedView<'a>
         ensures { result ≡ as_if planned.now.keys store.now }
     {
-        Past { store, planned }
+        PlannedView { store, planned }
     }
 
     /// The store as it is, if none is planned.
-    pub(crate) fn of(store: &'a Store, none: &'a IndexSet<Digest>) -> Past<'a>
+    pub(crate) fn of(store: &'a Store, none: &'a IndexSet<Digest>) -> PlannedView<'a>
         requires { none.now.keys ≡ [] }
         ensures { result ≡ store.now }
     {
-        Past {
+        PlannedView {
             store,
             planned: none,
         }

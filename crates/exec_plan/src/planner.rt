@@ -13,8 +13,8 @@ ghost use Rattle.exec_plan.specs.Waits.{IsWaiting};
 
 use crate::inputs::is_let;
 use crate::makers::awaited;
-use crate::past::Past;
-use crate::waiting::Waiting;
+use crate::past::PlannedView;
+use crate::waiting::DependencyIndex;
 use digest_core::Digest;
 use indexmap::IndexSet;
 use protocol_spec::Held;
@@ -26,7 +26,7 @@ use wire_bcs::{OutOfMemory, Seq};
 /// Whether a certificate joins the next layer: it is neither executed nor planned, it may run, and all that makes what it
 /// wants is executed or planned.
 #[tactic(auto, using(crate::proofs::Making::waits_where))]
-fn joins(past: &Past<'_>, admission: &Admission, held: &Held) -> bool
+fn joins(past: &PlannedView<'_>, admission: &Admission, held: &Held) -> bool
     ensures { result ≡ joins_now past.now admission.now.admission held.now }
 {
     if past.is_executed(&held.digest) || !is_let(admission, held) {
@@ -37,7 +37,7 @@ fn joins(past: &Past<'_>, admission: &Admission, held: &Held) -> bool
 }
 
 /// [`joins`] for the certificate at a place; false if there is none.
-fn joins_at(past: &Past<'_>, admission: &Admission, held: &[Held], place: usize) -> bool
+fn joins_at(past: &PlannedView<'_>, admission: &Admission, held: &[Held], place: usize) -> bool
     ensures { result ≡ joins_of past.now admission.now.admission (slice_get held.now place) }
 {
     match held.get(place) {
@@ -59,7 +59,7 @@ fn add_where(places: &mut Seq<usize>, place: usize, is: bool) -> Result<(), OutO
 /// The places, among these, whose certificates join the next layer.
 fn layer_among(
     alloc: Global,
-    past: &Past<'_>,
+    past: &PlannedView<'_>,
     admission: &Admission,
     held: &[Held],
     places: &[usize],
@@ -121,7 +121,7 @@ fn add_all_planned(planned: &mut IndexSet<Digest>, txs: &[Digest]) -> Result<(),
 
 /// A plan in the making: the layers so far.
 #[derive(Drop)]
-pub(crate) struct Ahead {
+pub(crate) struct PlanSoFar {
     /// The planned transactions.
     pub(crate) planned: IndexSet<Digest>,
     /// The places of their certificates, in the order in which they are planned.
@@ -130,14 +130,14 @@ pub(crate) struct Ahead {
     pub(crate) taken: Seq<usize>,
 }
 
-impl Ahead {
+impl PlanSoFar {
     /// No layers. Takes no memory.
-    fn new(alloc: Global) -> Ahead
+    fn new(alloc: Global) -> PlanSoFar
         ensures planned { result.planned.keys ≡ [] }
         ensures places { result.places ≡ [] }
         ensures taken { result.taken ≡ [] }
     {
-        Ahead {
+        PlanSoFar {
             planned: IndexSet::new(alloc),
             places: Seq::new(alloc),
             taken: Seq::new(alloc),
@@ -162,9 +162,9 @@ fn plan_layer(
     alloc: Global,
     store: &Store,
     admission: &Admission,
-    waiting: &mut Waiting,
+    waiting: &mut DependencyIndex,
     held: &[Held],
-    ahead: &mut Ahead,
+    ahead: &mut PlanSoFar,
 ) -> Result<bool, OutOfMemory>
     requires apart { AreApart held.now }
     requires filed { IsWaiting (as_if ahead.old.planned.keys store.now) admission.now.admission held.now waiting.old }
@@ -178,7 +178,7 @@ fn plan_layer(
     let looked = waiting.take_open(alloc)?;
     let layer = layer_among(
         alloc,
-        &Past::new(store, &ahead.planned),
+        &PlannedView::new(store, &ahead.planned),
         admission,
         held,
         looked.as_slice(),
@@ -186,7 +186,7 @@ fn plan_layer(
     let txs = digests_at(alloc, held, layer.as_slice())?;
     ahead.add(looked.as_slice(), layer.as_slice(), txs.as_slice())?;
     let freed = waiting.free(txs.as_slice())?;
-    let past = Past::new(store, &ahead.planned);
+    let past = PlannedView::new(store, &ahead.planned);
     waiting.file_each(&past, admission, held, freed.as_slice())?;
     Ok(txs.is_empty())
 }
@@ -196,9 +196,9 @@ fn plan_layers(
     alloc: Global,
     store: &Store,
     admission: &Admission,
-    waiting: &mut Waiting,
+    waiting: &mut DependencyIndex,
     held: &[Held],
-) -> Result<Ahead, OutOfMemory>
+) -> Result<PlanSoFar, OutOfMemory>
     requires apart { AreApart held.now }
     requires filed { IsWaiting store.now admission.now.admission held.now waiting.old }
     ensures places { IfOk result (λ ahead. picked held.now ahead.places ≡ planned_of (books_of store.now admission.now.admission held.now) store.now.executed) }
@@ -206,7 +206,7 @@ fn plan_layers(
     ensures filed { IfOk result (λ ahead. IsWaiting (as_if ahead.planned.keys store.now) admission.now.admission held.now waiting.new) }
     ensures taken { IfOk result (λ ahead. AreTaken held.now ahead.planned.keys ahead.taken) }
 {
-    let mut ahead = Ahead::new(alloc);
+    let mut ahead = PlanSoFar::new(alloc);
     let mut left = held.len();
     while left > 0 {
         let last = plan_layer(alloc, store, admission, waiting, held, &mut ahead)?;
@@ -224,9 +224,9 @@ pub(crate) fn plan_places(
     alloc: Global,
     store: &Store,
     admission: &Admission,
-    waiting: &mut Waiting,
+    waiting: &mut DependencyIndex,
     held: &[Held],
-) -> Result<Ahead, OutOfMemory>
+) -> Result<PlanSoFar, OutOfMemory>
     requires apart { AreApart held.now }
     requires filed { IsWaiting store.now admission.now.admission held.now waiting.old }
     ensures places { IfOk result (λ ahead. picked held.now ahead.places ≡ planned_of (books_of store.now admission.now.admission held.now) store.now.executed) }

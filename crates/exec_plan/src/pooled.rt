@@ -9,7 +9,7 @@ ghost use Rattle.exec_plan.specs.Waits.{IsWaiting};
 
 use crate::ready::{Ready, plan_ready};
 use crate::settled::settle;
-use crate::waiting::Waiting;
+use crate::waiting::DependencyIndex;
 use dag_pool::{Gate, run_plan};
 use effects_core::HashedEffects;
 use protocol_spec::Held;
@@ -38,7 +38,7 @@ pub fn run_pooled<R: Threads + Sync, G: Gate + Sync>(
     alloc: Global,
     store: &mut Store,
     admission: &Admission,
-    waiting: &mut Waiting,
+    waiting: &mut DependencyIndex,
     held: &[Held],
     workers: u32,
     gate: &G,

@@ -11,7 +11,7 @@ ghost use Rattle.exec_plan.specs.Waits.{IsWaiting};
 use crate::drafting::draft_all;
 use crate::planner::plan_places;
 use crate::task::Task;
-use crate::waiting::Waiting;
+use crate::waiting::DependencyIndex;
 use dag_core::Plan;
 use protocol_spec::Held;
 use std::alloc::Global;
@@ -39,7 +39,7 @@ pub fn plan_ready<'a>(
     alloc: Global,
     store: &Store,
     admission: &Admission,
-    waiting: &mut Waiting,
+    waiting: &mut DependencyIndex,
     held: &'a [Held],
 ) -> Result<Ready<'a>, OutOfMemory>
     requires sound { Each IsSound held.now }

@@ -12,10 +12,10 @@ ghost use Rattle.exec_plan.specs.Tasks.{edges_of, tasks_of};
 ghost use Rattle.exec_plan.specs.Waits.{IsWaiting};
 
 use crate::keeping::keep_all;
-use crate::past::Past;
+use crate::past::PlannedView;
 use crate::ready::{Ready, plan_ready};
 use crate::task::Outcome;
-use crate::waiting::Waiting;
+use crate::waiting::DependencyIndex;
 use dag_core::evaluate_plain;
 use digest_core::Digest;
 use effects_core::HashedEffects;
@@ -36,7 +36,7 @@ pub fn settle(
     alloc: Global,
     store: &mut Store,
     admission: &Admission,
-    waiting: &mut Waiting,
+    waiting: &mut DependencyIndex,
     held: &[Held],
     ready: &Ready<'_>,
     outputs: Seq<(Digest, Outcome)>,
@@ -61,7 +61,7 @@ pub fn settle(
         outputs,
     )?;
     let none = IndexSet::new(alloc);
-    let past = Past::of(store, &none);
+    let past = PlannedView::of(store, &none);
     waiting.file_each(&past, admission, held, ready.taken.as_slice())?;
     Ok(effects)
 }
@@ -73,7 +73,7 @@ pub fn run_planned(
     alloc: Global,
     store: &mut Store,
     admission: &Admission,
-    waiting: &mut Waiting,
+    waiting: &mut DependencyIndex,
     held: &[Held],
 ) -> Result<Seq<HashedEffects>, OutOfMemory>
     requires sound { Each IsSound held.now }

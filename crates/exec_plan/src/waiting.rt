@@ -12,7 +12,7 @@ ghost use Rattle.exec_plan.specs.Waits.{Filed, IsFiled, IsWaiting, KeepsPlaces, 
 use crate::behind::{add_behind, free_behind};
 use crate::inputs::is_let;
 use crate::makers::awaited;
-use crate::past::Past;
+use crate::past::PlannedView;
 use digest_core::Digest;
 use indexmap::{IndexMap, IndexSet};
 use protocol_spec::Held;
@@ -26,7 +26,7 @@ use wire_bcs::{OutOfMemory, Seq};
 /// its admission, and each that may run for a transaction that makes what it wants; once there is none, it
 /// waits for nothing, and each run looks at it until it is executed.
 #[derive(Drop)]
-pub struct Waiting {
+pub struct DependencyIndex {
     /// The places of certificates that wait for nothing.
     next: BTreeSet<usize>,
     /// The places of those that need an admission, each under its own transaction.
@@ -36,13 +36,13 @@ pub struct Waiting {
     alloc: Global,
 }
 
-impl Waiting {
+impl DependencyIndex {
     /// Nothing held, so nothing waits. Takes no memory.
     #[tactic(auto, using(crate::proofs::Filing::nothing_waits))]
-    pub fn new(alloc: Global) -> Waiting
+    pub fn new(alloc: Global) -> DependencyIndex
         ensures { (s : Stored) (a : A) → IsWaiting s a [] result }
     {
-        Waiting {
+        DependencyIndex {
             next: BTreeSet::new(alloc),
             unadmitted: IndexMap::new(alloc),
             behind: IndexMap::new(alloc),
@@ -54,7 +54,7 @@ impl Waiting {
     /// that it waits for, or for the next run.
     fn file(
         &mut self,
-        past: &Past<'_>,
+        past: &PlannedView<'_>,
         admission: &Admission,
         place: usize,
         held: &Held,
@@ -77,10 +77,10 @@ impl Waiting {
         }
     }
 
-    /// [`Waiting::hold`] with a view of the store.
+    /// [`DependencyIndex::hold`] with a view of the store.
     fn hold_behind(
         &mut self,
-        past: &Past<'_>,
+        past: &PlannedView<'_>,
         admission: &Admission,
         held: &[Held],
         new: &Held,
@@ -105,7 +105,7 @@ impl Waiting {
         ensures err { OnErr result (IsWaiting store.now admission.now.admission held.now self.new) }
     {
         let none = IndexSet::new(self.alloc);
-        self.hold_behind(&Past::of(store, &none), admission, held, new)
+        self.hold_behind(&PlannedView::of(store, &none), admission, held, new)
     }
 
     /// These transactions, and no others, were newly admitted: those of them that are held wait for what they want
@@ -122,13 +122,18 @@ impl Waiting {
     {
         let woken = self.wake(txs)?;
         let none = IndexSet::new(self.alloc);
-        self.file_each(&Past::of(store, &none), admission, held, woken.as_slice())
+        self.file_each(
+            &PlannedView::of(store, &none),
+            admission,
+            held,
+            woken.as_slice(),
+        )
     }
 
     /// Files the certificate at a place, if there is one.
     fn file_at(
         &mut self,
-        past: &Past<'_>,
+        past: &PlannedView<'_>,
         admission: &Admission,
         held: &[Held],
         place: usize,
@@ -145,7 +150,7 @@ impl Waiting {
     /// Files the certificates at these places, which are in no list.
     pub(crate) fn file_each(
         &mut self,
-        past: &Past<'_>,
+        past: &PlannedView<'_>,
         admission: &Admission,
         held: &[Held],
         places: &[usize],

@@ -7,7 +7,7 @@ use quorum_core::Committee;
 use std::alloc::Global;
 use std::test::Fail;
 use wire_bcs::{OutOfMemory, Seq};
-use world_lines::{Collected, SaidBook};
+use world_lines::{Collected, StatementLog};
 
 const TX: Digest = Digest([7; 32]);
 
@@ -18,7 +18,7 @@ const SEAL: Digest = Digest([9; 32]);
 const EPOCH: u64 = 5;
 
 /// A member votes for the transaction, and names one origin, which is none.
-fn vote(alloc: Global, book: &mut SaidBook, member: u32) -> Result<(), OutOfMemory> {
+fn vote(alloc: Global, book: &mut StatementLog, member: u32) -> Result<(), OutOfMemory> {
     let origins = Seq::from_slice(alloc, [None].as_slice())?;
     let vote = Statement::Vote {
         epoch: EPOCH,
@@ -31,7 +31,7 @@ fn vote(alloc: Global, book: &mut SaidBook, member: u32) -> Result<(), OutOfMemo
 /// Says votes of the members 0 and 1, and what those of these members for the transaction of the epoch give.
 fn collected(
     alloc: Global,
-    book: &mut SaidBook,
+    book: &mut StatementLog,
     epoch: u64,
     members: &[u32],
 ) -> Result<Option<Collected>, OutOfMemory> {
@@ -45,7 +45,7 @@ fn collected(
 
 /// The weight of three that these members have, if it is too little.
 fn weight(alloc: Global, members: &[u32]) -> Option<u64> {
-    let mut book = SaidBook::new(alloc);
+    let mut book = StatementLog::new(alloc);
     let collected = collected(alloc, &mut book, EPOCH, members);
     drop(book);
     match collected {
@@ -64,7 +64,7 @@ fn a_member_named_twice_weighs_once(rt: HostRuntime) -> Result<(), Fail> {
 
 /// The first of the members without a vote for the transaction of the epoch.
 fn lacking(alloc: Global, epoch: u64, members: &[u32]) -> Option<u32> {
-    let mut book = SaidBook::new(alloc);
+    let mut book = StatementLog::new(alloc);
     let collected = collected(alloc, &mut book, epoch, members);
     drop(book);
     match collected {

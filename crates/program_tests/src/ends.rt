@@ -11,7 +11,7 @@ use std::alloc::Global;
 use std::process::Abort;
 use std::test::Fail;
 use wire_bcs::{OutOfMemory, Seq};
-use world_lines::OrderBook;
+use world_lines::ConsensusLog;
 
 /// A member's End of an epoch, under the seal of this signer.
 #[tactic(auto, unfolding(chain_messages::specs::Messages::statement), using(world_lines::proofs::Spelled::short_end))]
@@ -31,7 +31,7 @@ fn end(alloc: Global, member: u32, signer: u32, epoch: u64) -> Result<Entry, Out
 /// Orders an End, and says whether the open epoch has ended then.
 fn order(
     alloc: Global,
-    book: &mut OrderBook,
+    book: &mut ConsensusLog,
     committee: &Committee,
     end: &(u32, u32, u64),
 ) -> Result<bool, OutOfMemory> {
@@ -45,7 +45,7 @@ fn order(
 /// What is said after each of these Ends: a member, the signer of its seal, and an epoch.
 fn told(
     alloc: Global,
-    book: &mut OrderBook,
+    book: &mut ConsensusLog,
     committee: &Committee,
     ends: &[(u32, u32, u64)],
 ) -> Result<Seq<bool>, OutOfMemory> {
@@ -77,7 +77,7 @@ const NEXT: [(u32, u32, u64); 3] = [(3, 3, 0), (3, 3, 1), (0, 0, 1)];
 fn expect_ends(
     rt: &impl Abort,
     alloc: Global,
-    book: &mut OrderBook,
+    book: &mut ConsensusLog,
     committee: &Committee,
 ) -> Result<(), OutOfMemory> {
     let ended = told(alloc, book, committee, ENDS.as_slice())?;
@@ -95,7 +95,7 @@ fn an_epoch_ends_behind_the_ends_of_three_of_four(rt: HostRuntime) -> Result<(),
     let Ok(committee) = Committee::new([1, 1, 1, 1].as_slice()) else {
         return Err(Fail::new("four stakes are a committee"));
     };
-    let mut book = OrderBook::new(alloc);
+    let mut book = ConsensusLog::new(alloc);
     let expected = expect_ends(&rt, alloc, &mut book, &committee);
     drop(book);
     Ok(expected?)

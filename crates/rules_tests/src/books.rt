@@ -12,7 +12,7 @@ use protocol_spec::{Held, SharedCertificate};
 use std::alloc::Global;
 use std::process::Abort;
 use version_store::Store;
-use vote_rules::{Fork, HeldBook, VoteBook};
+use vote_rules::{CertificateStore, Fork, VoteStore};
 use wire_bcs::{OutOfMemory, Seq};
 
 /// Tests that all versions are locked or none, for one transaction, which may lock them again.
@@ -66,7 +66,7 @@ fn transaction(alloc: Global, gas: ObjectRef, inputs: Seq<Input>) -> Transaction
 /// Whether there is no vote for a transaction under this digest that spends the coin 5, or why.
 fn refused(
     alloc: Global,
-    book: &VoteBook,
+    book: &VoteStore,
     digest: &Digest,
 ) -> Result<Option<DecideRefusal>, OutOfMemory> {
     let store = Store::opening(
@@ -86,7 +86,7 @@ fn refused(
 }
 
 /// Casts a vote for the transaction 1: it consumes the coin 5, and names two origins.
-fn cast(alloc: Global, book: &mut VoteBook) -> Result<(), OutOfMemory>
+fn cast(alloc: Global, book: &mut VoteStore) -> Result<(), OutOfMemory>
     requires { book.old ≡ [] }
 {
     let keys = Seq::from_slice(alloc, [key(5, 1)].as_slice())?;
@@ -95,7 +95,7 @@ fn cast(alloc: Global, book: &mut VoteBook) -> Result<(), OutOfMemory>
 }
 
 /// Whether a vote was given that names these origins.
-fn names(book: &VoteBook, tx: &Digest, origins: &[Option<Digest>]) -> bool {
+fn names(book: &VoteStore, tx: &Digest, origins: &[Option<Digest>]) -> bool {
     match book.origins(tx) {
         Some(named) => named.as_slice() == origins,
         None => false,
@@ -103,7 +103,7 @@ fn names(book: &VoteBook, tx: &Digest, origins: &[Option<Digest>]) -> bool {
 }
 
 /// Tests which origins votes name, and whom their locks hinder: another transaction, and not their own.
-fn expect_votes(rt: &impl Abort, alloc: Global, book: &VoteBook) {
+fn expect_votes(rt: &impl Abort, alloc: Global, book: &VoteStore) {
     let (one, two) = (digest(1), digest(2));
     holds(rt, names(book, &one, [None, Some(two)].as_slice()));
     holds(rt, book.origins(&two).is_none());
@@ -118,7 +118,7 @@ fn expect_votes(rt: &impl Abort, alloc: Global, book: &VoteBook) {
 #[test]
 fn a_vote_locks_for_its_own_transaction(rt: HostRuntime) {
     let alloc = rt.alloc();
-    let mut book = VoteBook::new(alloc);
+    let mut book = VoteStore::new(alloc);
     let said = cast(alloc, &mut book);
     expect_votes(&rt, alloc, &book);
     drop(book);
@@ -128,7 +128,7 @@ fn a_vote_locks_for_its_own_transaction(rt: HostRuntime) {
 /// Holds a certificate of a transaction that consumes version 1 of these two, if none of this digest is held.
 fn takes(
     alloc: Global,
-    book: &mut HeldBook,
+    book: &mut CertificateStore,
     digest: Digest,
     gas: u8,
     input: u8,
@@ -149,7 +149,7 @@ fn takes(
 }
 
 /// The gas coin of a held transaction.
-fn gas_of(book: &HeldBook, tx: &Digest) -> Option<ObjectRef> {
+fn gas_of(book: &CertificateStore, tx: &Digest) -> Option<ObjectRef> {
     match book.get(tx) {
         Some(cert) => Some(cert.tx.gas),
         None => None,
@@ -157,7 +157,7 @@ fn gas_of(book: &HeldBook, tx: &Digest) -> Option<ObjectRef> {
 }
 
 /// The transaction that was held at a place.
-fn held_at(book: &HeldBook, place: usize) -> Option<Digest> {
+fn held_at(book: &CertificateStore, place: usize) -> Option<Digest> {
     match book.as_slice().get(place) {
         Some(held) => Some(held.digest),
         None => None,
@@ -165,7 +165,11 @@ fn held_at(book: &HeldBook, place: usize) -> Option<Digest> {
 }
 
 /// Tests that what is held is found, in order, and that the first fork stays.
-fn expect_held(rt: &impl Abort, alloc: Global, book: &mut HeldBook) -> Result<(), OutOfMemory> {
+fn expect_held(
+    rt: &impl Abort,
+    alloc: Global,
+    book: &mut CertificateStore,
+) -> Result<(), OutOfMemory> {
     let (first, second, third) = (digest(2), digest(1), digest(3));
     holds(rt, !book.has(&first));
     same(rt, takes(alloc, book, first, 5, 6), Ok(true));
@@ -198,7 +202,7 @@ fn expect_held(rt: &impl Abort, alloc: Global, book: &mut HeldBook) -> Result<()
 #[test]
 fn finds_what_is_held(rt: HostRuntime) {
     let alloc = rt.alloc();
-    let mut book = HeldBook::new(alloc);
+    let mut book = CertificateStore::new(alloc);
     let said = expect_held(&rt, alloc, &mut book);
     drop(book);
     same(&rt, said, Ok(()));

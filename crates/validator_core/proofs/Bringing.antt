@@ -29,10 +29,10 @@ use Rattle.version_assign.specs.declared.taken.Taken.{Taken}
 use Rattle.version_assign.specs.Calls.{Admitting, with_entry as with_certificate, with_mark as with_mark_passed}
 use Rattle.version_assign.specs.Sharing.{HasShared, ServesAs}
 use Rattle.version_assign.proofs.Sharing.{kept_serve}
-use Rattle.validator_core.specs.declared.course.Course.{Course}
+use Rattle.validator_core.specs.declared.epoch_state.EpochState.{EpochState}
 use Rattle.validator_core.specs.Courses.{Coursed, IsAdmitting, IsSound, IsUnbuilt, WaitsIn, arrives, brings, coursed, marks, numbered_in}
-use Rattle.validator_core.specs.declared.entries.Arrival.{Arrival}
-use Rattle.validator_core.specs.declared.entries.Arrival.TheVariants as arrivals
+use Rattle.validator_core.specs.declared.entries.EntryOutcome.{EntryOutcome}
+use Rattle.validator_core.specs.declared.entries.EntryOutcome.TheVariants as arrivals
 use Rattle.validator_core.specs.Entries.{behind_entry, waiting_answer, what_as}
 use Rattle.validator_core.specs.Limits.{Accepting}
 use Rattle.validator_core.specs.Sound.{member_with}
@@ -85,7 +85,7 @@ mark_past c = by (uncut c == 0)
 same_cuts : (c : Chaining) → size_of c.marks ≤ length c.due → KeepsCuts c c
 same_cuts c few = keeps_cuts c (record { tx = zero_digest; same = false }) few
 
-module _ (c : Course) (sound : IsSound c) where
+module _ (c : EpochState) (sound : IsSound c) where
   u : IsUnbuilt c
   u = sound.unbuilt
 
@@ -276,7 +276,7 @@ numbered_what r old new (counts member) = refl
 numbered_what r old new (ignores cause) = refl
 
 -- the member after an entry that was taken
-pub entry_is : (stakes : List ℕ) (cs new : Coursed) (arrival : Arrival) (records : ℕ) (closed : Bool) (votes : List Cast) (accepts : Accepting) → new ≡ numbered_in (arrives stakes cs arrival)
+pub entry_is : (stakes : List ℕ) (cs new : Coursed) (arrival : EntryOutcome) (records : ℕ) (closed : Bool) (votes : List Cast) (accepts : Accepting) → new ≡ numbered_in (arrives stakes cs arrival)
     → member_with (records + 1) closed votes new ≡ behind_entry (rules_for (record { stakes = stakes; writers = cs.writers }) accepts) (member_with records closed votes cs) (what_as arrival)
 unfolding with_entry
 entry_is stakes cs new (arrivals.Takes h) records closed votes accepts is = ap (member_with (records + 1) closed votes) is

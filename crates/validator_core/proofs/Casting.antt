@@ -17,15 +17,15 @@ use Rattle.cert_rules.proofs.Whole.{vote_short}
 use Rattle.protocol_spec.specs.Member.Member.{Member, after}
 use Rattle.protocol_spec.specs.Member.Calls.{Call, after_due, called, due}
 use Rattle.validator_core.specs.Answers.{HoldDue, IsFree, MayHold}
-use Rattle.validator_core.specs.declared.holds.Holding.{Holding}
-use Rattle.validator_core.specs.declared.holds.Holding.TheVariants as holdings
+use Rattle.validator_core.specs.declared.holds.CertificateOutcome.{CertificateOutcome}
+use Rattle.validator_core.specs.declared.holds.CertificateOutcome.TheVariants as holdings
 use Rattle.validator_core.specs.Steps.{holding, voted}
-use Rattle.validator_core.specs.declared.votes.Decision.{Decision}
+use Rattle.validator_core.specs.declared.votes.DecidedVote.{DecidedVote}
 use Rattle.validator_core.specs.Taking.{MayCast, MayTake}
 
 -- ---- what may be kept
 
-pub vote_may : (m : Member) (t : Transaction) (d : Decision) → IsFree m t d → d.fresh ≡ true → transaction.short t → MayCast m t d.digest d.origins
+pub vote_may : (m : Member) (t : Transaction) (d : DecidedVote) → IsFree m t d → d.fresh ≡ true → transaction.short t → MayCast m t d.digest d.origins
 vote_may m t d free fresh short = record { is = free.digest; new = free.new fresh; few = free.few; free = free.free fresh; spelled = short }
 
 pub hold_may : (m : Member) (c : Certificate) (digest : Digest) → MayHold m c digest → certificate.short c → MayTake m digest (record_as.Hold c)
@@ -44,19 +44,19 @@ hold_short c short = short
 
 -- ---- the record that is due
 
-pub new_due : (d : Option Record) (c : Certificate) (h : Holding) (digest : Digest) → HoldDue d (Ok (c, h)) → h ≡ holdings.New digest → d ≡ Some (record_as.Hold c)
-new_due d c h digest due_ is = subst (λ (x : Holding). HoldDue d (Ok (c, x))) is due_
+pub new_due : (d : Option Record) (c : Certificate) (h : CertificateOutcome) (digest : Digest) → HoldDue d (Ok (c, h)) → h ≡ holdings.New digest → d ≡ Some (record_as.Hold c)
+new_due d c h digest due_ is = subst (λ (x : CertificateOutcome). HoldDue d (Ok (c, x))) is due_
 
-pub fork_due : (d : Option Record) (c : Certificate) (h : Holding) (key : ObjectKey) (first digest : Digest) → HoldDue d (Ok (c, h)) → h ≡ holdings.Fork key first digest → d ≡ Some (record_as.Hold c)
-fork_due d c h key first digest due_ is = subst (λ (x : Holding). HoldDue d (Ok (c, x))) is due_
+pub fork_due : (d : Option Record) (c : Certificate) (h : CertificateOutcome) (key : ObjectKey) (first digest : Digest) → HoldDue d (Ok (c, h)) → h ≡ holdings.Fork key first digest → d ≡ Some (record_as.Hold c)
+fork_due d c h key first digest due_ is = subst (λ (x : CertificateOutcome). HoldDue d (Ok (c, x))) is due_
 
 pub fresh_due : (d x : Option Record) (b : Bool) → d ≡ cond b x None → b ≡ true → d ≡ x
 fresh_due d x b due_ fresh = due_ ∙ ap (λ (f : Bool). cond f x None) fresh
 
-pub new_owed : (d : Option Record) (c : Certificate) (h : Holding) (digest : Digest) → HoldDue d (Ok (c, h)) → h ≡ holdings.New digest → is_some d ≡ true
+pub new_owed : (d : Option Record) (c : Certificate) (h : CertificateOutcome) (digest : Digest) → HoldDue d (Ok (c, h)) → h ≡ holdings.New digest → is_some d ≡ true
 new_owed d c h digest due_ is = ap (λ (o : Option Record). is_some o) (new_due d c h digest due_ is)
 
-pub fork_owed : (d : Option Record) (c : Certificate) (h : Holding) (key : ObjectKey) (first digest : Digest) → HoldDue d (Ok (c, h)) → h ≡ holdings.Fork key first digest → is_some d ≡ true
+pub fork_owed : (d : Option Record) (c : Certificate) (h : CertificateOutcome) (key : ObjectKey) (first digest : Digest) → HoldDue d (Ok (c, h)) → h ≡ holdings.Fork key first digest → is_some d ≡ true
 fork_owed d c h key first digest due_ is = ap (λ (o : Option Record). is_some o) (fork_due d c h key first digest due_ is)
 
 -- ---- the state after a call

@@ -12,24 +12,24 @@ use Rattle.epoch_turn.specs.Dues.{due_of, size_of}
 use Rattle.epoch_turn.proofs.Told.{all_built, told_held}
 use Rattle.exec_plan.specs.Books.{IsSound as IsSoundHeld}
 use Rattle.exec_plan.specs.Waits.{IsWaiting}
-use Rattle.exec_plan.specs.declared.waiting.Waiting.{Waiting}
+use Rattle.exec_plan.specs.declared.waiting.DependencyIndex.{DependencyIndex}
 use Rattle.version_assign.specs.Sharing.{HasShared, KeepsShared}
 use Rattle.version_assign.specs.Calls.{is_shared_one}
 use Rattle.version_assign.proofs.Sharing.{shared_keeps}
 use Rattle.version_store.proofs.Openings.{single_apart}
 use Rattle.world_spec.specs.Starts.{AreApart}
 use Rattle.version_store.specs.Stores.{Stored}
-use Rattle.validator_core.specs.declared.course.Course.{Course}
+use Rattle.validator_core.specs.declared.epoch_state.EpochState.{EpochState}
 use Rattle.epoch_turn.specs.Openings.{Opens}
 use Rattle.validator_core.specs.Courses.{AreHeld, HasOpening, IsAdmitting, IsHeldIn, IsSound, IsUnbuilt, WaitsIn, built_in, coursed}
 
 -- all that is built is what the definitions build
-pub built_is : (c : Course) → IsSound c → c.chain.built ≡ built_in (coursed c)
+pub built_is : (c : EpochState) → IsSound c → c.chain.built ≡ built_in (coursed c)
 built_is c sound = (sound.all c.held c.admission.admission.admitted sound.unbuilt.told).built
 
 -- ---- if nothing is held
 
-pub fresh_sound : (c : Course) (before : Chaining) → HasOpening c → c.admission.admission ≡ nothing_admitted → c.held ≡ [] → ((s : Stored) (a : Admission) → IsWaiting s a [] c.waiting) → c.chain ≡ turned before → StartsBehind c.chain → IsSound c
+pub fresh_sound : (c : EpochState) (before : Chaining) → HasOpening c → c.admission.admission ≡ nothing_admitted → c.held ≡ [] → ((s : Stored) (a : Admission) → IsWaiting s a [] c.waiting) → c.chain ≡ turned before → StartsBehind c.chain → IsSound c
 fresh_sound c before opening fresh none waits built starts = record {
   unbuilt = record {
     held = subst (Each IsSoundHeld) (sym none) tt;
@@ -46,7 +46,7 @@ fresh_sound c before opening fresh none waits built starts = record {
   all = subst (BuildsAll c.epoch c.store.executed) (sym built) (all_built c.epoch c.store.executed (turned before));
 }
 
-pub empty_sound : (c : Course) → HasOpening c → c.admission.admission ≡ nothing_admitted → c.held ≡ [] → ((s : Stored) (a : Admission) → IsWaiting s a [] c.waiting) → c.chain ≡ nothing_built → StartsBehind c.chain → IsSound c
+pub empty_sound : (c : EpochState) → HasOpening c → c.admission.admission ≡ nothing_admitted → c.held ≡ [] → ((s : Stored) (a : Admission) → IsWaiting s a [] c.waiting) → c.chain ≡ nothing_built → StartsBehind c.chain → IsSound c
 empty_sound c opening fresh none waits built starts = fresh_sound c nothing_built opening fresh none waits built starts
 
 -- the opening of an epoch 0, whose objects have distinct ids
@@ -79,10 +79,10 @@ known_more held h a known = record {
   pending = each_as (WaitsIn held) (WaitsIn (held ++ h ∷ [])) a.pending (stays_waiting held h) known.pending;
 }
 
-abbrev pub with_held_now : Course → List Held → Waiting → Course
+abbrev pub with_held_now : EpochState → List Held → DependencyIndex → EpochState
 with_held_now c held waiting = record c { held = held; waiting = waiting }
 
-pub hold_sound : (c : Course) (h : Held) (held : List Held) (waiting : Waiting) → IsSound c → IsSoundHeld h → held ≡ c.held ++ h ∷ [] → IsWaiting c.store c.admission.admission (c.held ++ h ∷ []) waiting → IsSound (with_held_now c held waiting)
+pub hold_sound : (c : EpochState) (h : Held) (held : List Held) (waiting : DependencyIndex) → IsSound c → IsSoundHeld h → held ≡ c.held ++ h ∷ [] → IsWaiting c.store c.admission.admission (c.held ++ h ∷ []) waiting → IsSound (with_held_now c held waiting)
 hold_sound c h held waiting sound one is waits = subst (λ (hs : List Held). IsSound (with_held_now c hs waiting)) (sym is) all_sound
   where
     u : IsUnbuilt c
@@ -107,10 +107,10 @@ hold_sound c h held waiting sound one is waits = subst (λ (hs : List Held). IsS
 
 -- ---- what was admitted is reported
 
-abbrev pub told_now : Course → Waiting → Chaining → Course
+abbrev pub told_now : EpochState → DependencyIndex → Chaining → EpochState
 told_now c waiting chain = record c { waiting = waiting; chain = chain }
 
-pub let_in_sound : (c : Course) (waiting : Waiting) (chain : Chaining) (from : ℕ) → IsAdmitting from c → IsWaiting c.store c.admission.admission c.held waiting → chain.marks ≡ c.chain.marks → length c.chain.due ≤ length chain.due → StaysBehind c.chain chain
+pub let_in_sound : (c : EpochState) (waiting : DependencyIndex) (chain : Chaining) (from : ℕ) → IsAdmitting from c → IsWaiting c.store c.admission.admission c.held waiting → chain.marks ≡ c.chain.marks → length c.chain.due ≤ length chain.due → StaysBehind c.chain chain
     → IsTold c.held c.admission.admission.admitted chain → IsUnbuilt (told_now c waiting chain)
 let_in_sound c waiting chain from is waits marks more stays told = record {
   held = is.held;

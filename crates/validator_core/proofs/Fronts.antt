@@ -14,8 +14,8 @@ use Rattle.protocol_spec.specs.Member.Admission.{Admission, Admitted, admit, ent
 use Rattle.protocol_spec.specs.Member.Checkpoints.{held_of}
 use Rattle.protocol_spec.specs.Member.Sequence.{counted_as}
 use Rattle.epoch_turn.specs.Dues.{front_length, is_ordered}
-use Rattle.validator_core.specs.declared.entries.Arrival.{Arrival}
-use Rattle.validator_core.specs.declared.entries.Arrival.TheVariants as arrivals
+use Rattle.validator_core.specs.declared.entries.EntryOutcome.{EntryOutcome}
+use Rattle.validator_core.specs.declared.entries.EntryOutcome.TheVariants as arrivals
 use Rattle.validator_core.specs.Courses.{Coursed, arrives, numbered_in, with_held}
 use Rattle.validator_core.specs.Sound.{ordered_front}
 
@@ -134,7 +134,7 @@ known_marked writers opening a tx known = known_taken writers opening (length a.
 pub front_held : (cs : Coursed) (h : Held) → ordered_front cs ≤ ordered_front (with_held cs h)
 front_held cs h = front_grows (is_ordered cs.sequence.admission) cs.held (h ∷ [])
 
-front_arrives : (stakes : List ℕ) (cs : Coursed) (arrival : Arrival) → ordered_front cs ≤ ordered_front (arrives stakes cs arrival)
+front_arrives : (stakes : List ℕ) (cs : Coursed) (arrival : EntryOutcome) → ordered_front cs ≤ ordered_front (arrives stakes cs arrival)
 front_arrives stakes cs (arrivals.Takes h) = by (is_some (held_of cs.held h.digest))
   where
     old : Admission
@@ -163,5 +163,5 @@ front_arrives stakes cs (arrivals.Ignores cause) = omega arith
 pub ordered_held : (n : ℕ) (cs : Coursed) (h : Held) (new : Coursed) → n ≤ ordered_front cs → new ≡ with_held cs h → n ≤ ordered_front new
 ordered_held n cs h new front is = subst (λ (x : Coursed). n ≤ ordered_front x) (sym is) (let more = front_held cs h in omega (arith, front, more))
 
-pub ordered_behind : (stakes : List ℕ) (n : ℕ) (cs : Coursed) (arrival : Arrival) (new : Coursed) → n ≤ ordered_front cs → new ≡ numbered_in (arrives stakes cs arrival) → n ≤ ordered_front new
+pub ordered_behind : (stakes : List ℕ) (n : ℕ) (cs : Coursed) (arrival : EntryOutcome) (new : Coursed) → n ≤ ordered_front cs → new ≡ numbered_in (arrives stakes cs arrival) → n ≤ ordered_front new
 ordered_behind stakes n cs arrival new front is = subst (λ (x : Coursed). n ≤ ordered_front x) (sym is) (let more = front_arrives stakes cs arrival in omega (arith, front, more))

@@ -15,14 +15,14 @@ use Rattle.epoch_turn.specs.Dues.{cuts_of}
 use Rattle.version_assign.specs.Calls.{Admitting}
 use Rattle.version_store.specs.Reverts.{is_kept, reverted_to, undone}
 use Rattle.version_store.specs.Stores.{Stored, next_epoch}
-use Rattle.validator_core.specs.declared.course.Course.{Course}
+use Rattle.validator_core.specs.declared.epoch_state.EpochState.{EpochState}
 use Rattle.validator_core.specs.Courses.{Coursed, IsSound, coursed, reverted_in, sequence_in, turned_in}
 use Rattle.validator_core.proofs.Coursing.{built_is}
 
 abbrev pub course_of : Option ℕ → ℕ → List Object → List Execution → List Held → Sequence → List Checkpoint → Coursed
 course_of writers epoch opening executed held sequence past = record { writers = writers; epoch = epoch; opening = opening; executed = executed; held = held; sequence = sequence; past = past }
 
-module _ (old : Course) (sound : IsSound old) (txs : List Digest) (cut : AreCut old.chain txs) where
+module _ (old : EpochState) (sound : IsSound old) (txs : List Digest) (cut : AreCut old.chain txs) where
   cut_is : txs ≡ cut_digests (sequence_in old).cuts
   cut_is = cut old.held old.admission.admission.admitted sound.unbuilt.told
 

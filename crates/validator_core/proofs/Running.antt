@@ -17,8 +17,8 @@ use Rattle.protocol_spec.specs.Member.Member.{Member, after, books, fresh, with_
 use Rattle.protocol_spec.specs.Member.Calls.{after_due, called, close_answer, close_record, closes, due, ran_as, ran_item, ran_items, ran_record, run_answer, run_record, runs}
 use Rattle.validator_core.specs.Answers.{bare, close_stopped, run_stopped}
 use Rattle.validator_core.specs.Steps.{closing, counted_where}
-use Rattle.validator_core.specs.declared.keeping.Unkept.{Unkept}
-use Rattle.validator_core.specs.declared.keeping.Unkept.TheVariants as unkept
+use Rattle.validator_core.specs.declared.keeping.JournalFault.{JournalFault}
+use Rattle.validator_core.specs.declared.keeping.JournalFault.TheVariants as unkept
 use Rattle.validator_core.specs.Calls.{Closes, Runs, close_ended, close_said, run_ended, run_said, unkept_close, unkept_run}
 use Rattle.validator_core.specs.Seats.{Becomes, Behaves, Ended, Journaled, Keeps, answered, fell, has_fallen}
 use Rattle.world_spec.proofs.RulesAside.{close_answer_alike, close_called_alike, close_due_alike, run_answer_alike, run_called_alike, run_due_alike}
@@ -98,7 +98,7 @@ pub run_owed : (m : Member) (ran : Ran) (items : List RanItem) → run_answer ba
 run_owed m ran items e is some = ap (λ (o : Option Record). is_some o) (run_due m ran items e is) ∙ some
 
 -- a run that says KeepFault has it from its record
-pub run_fault_kept : (why : Unkept) (e : RunRefusal) (r : Result Ran RunRefusal) → e ≡ unkept_run why → r ≡ Err e → r ≡ Err no_run.KeepFault → why ≡ unkept.KeepFault
+pub run_fault_kept : (why : JournalFault) (e : RunRefusal) (r : Result Ran RunRefusal) → e ≡ unkept_run why → r ≡ Err e → r ≡ Err no_run.KeepFault → why ≡ unkept.KeepFault
 run_fault_kept unkept.KeepFault e r is one fault = refl
 run_fault_kept unkept.OutOfMemory e r is one fault = absurd (cc)
 
@@ -115,7 +115,7 @@ run_called m next ran items e is step =
     ∙ ap (λ (xs : List RanItem). after_due bare m (ran_record xs)) (sym is)
     ∙ ap (after_due bare m) (sym (run_due m ran items e is))
 
-pub run_maybe_kept : (before now : Option Journals) (member : ℕ) (d x : Option Record) (why : Unkept) → d ≡ x → Keeps before now member x ⊎ KeepsJournals before now → Journaled before now member d (run_ended (Err (unkept_run why)))
+pub run_maybe_kept : (before now : Option Journals) (member : ℕ) (d x : Option Record) (why : JournalFault) → d ≡ x → Keeps before now member x ⊎ KeepsJournals before now → Journaled before now member d (run_ended (Err (unkept_run why)))
 run_maybe_kept before now member d x unkept.KeepFault is kept = maybe_kept before now member d x is kept
 run_maybe_kept before now member d x unkept.OutOfMemory is kept = maybe_kept before now member d x is kept
 
@@ -173,7 +173,7 @@ close_due m new e = ap close_record e
 pub close_owed : (m : Member) → close_free ≡ unless_refused (close_stopped m) tt → m.closed ≡ false → is_some (due bare m closes) ≡ true
 close_owed m goes open_ = ap (λ (o : Option Record). is_some o) (close_due m true (close_goes m false goes open_))
 
-pub close_maybe_kept : (before now : Option Journals) (member : ℕ) (d x : Option Record) (why : Unkept) → d ≡ x → Keeps before now member x ⊎ KeepsJournals before now → Journaled before now member d (close_ended (Err (unkept_close why)))
+pub close_maybe_kept : (before now : Option Journals) (member : ℕ) (d x : Option Record) (why : JournalFault) → d ≡ x → Keeps before now member x ⊎ KeepsJournals before now → Journaled before now member d (close_ended (Err (unkept_close why)))
 close_maybe_kept before now member d x unkept.KeepFault is kept = maybe_kept before now member d x is kept
 close_maybe_kept before now member d x unkept.OutOfMemory is kept = maybe_kept before now member d x is kept
 

@@ -15,10 +15,10 @@ use Rattle.protocol_spec.specs.Member.Sequence.{What, saw, seen_what, what_of, w
 use Rattle.protocol_spec.specs.Member.Member.{Fork, Member, after, fork_of, fresh, held_with}
 use Rattle.protocol_spec.specs.Member.Calls.{after_due, called, due, newly_built, see_after, see_answer, see_cases, see_fork, see_record, seen_as, sees}
 use Rattle.validator_core.specs.Calls.{Sees, see_ended, see_said, unkept_see}
-use Rattle.validator_core.specs.declared.keeping.Unkept.{Unkept}
-use Rattle.validator_core.specs.declared.keeping.Unkept.TheVariants as unkept
+use Rattle.validator_core.specs.declared.keeping.JournalFault.{JournalFault}
+use Rattle.validator_core.specs.declared.keeping.JournalFault.TheVariants as unkept
 use Rattle.vote_rules.specs.Holders.{sides}
-use Rattle.vote_rules.specs.declared.held_book.Fork.{Fork as Sides}
+use Rattle.vote_rules.specs.declared.certificate_store.Fork.{Fork as Sides}
 use Rattle.validator_core.specs.Entries.{behind_entry}
 use Rattle.validator_core.specs.Seats.{Becomes, Behaves, Ended, Journaled, Keeps, answered, fell, has_fallen}
 use Rattle.world_spec.specs.Seats.{Seated, due_at, rules_of_seat}
@@ -140,7 +140,7 @@ no_fork m none = by (fork_of m) none
 pub see_kept : (before now : Option Journals) (member : ℕ) (d x : Option Record) → d ≡ x → Keeps before now member x → Keeps before now member d ⊎ KeepsJournals before now
 see_kept before now member d x is kept = inl (subst (λ (y : Option Record). Keeps before now member y) (sym is) kept)
 
-pub see_maybe_kept : (before now : Option Journals) (member : ℕ) (d x : Option Record) (why : Unkept) → d ≡ x → Keeps before now member x ⊎ KeepsJournals before now → Journaled before now member d (see_ended (Err (unkept_see why)))
+pub see_maybe_kept : (before now : Option Journals) (member : ℕ) (d x : Option Record) (why : JournalFault) → d ≡ x → Keeps before now member x ⊎ KeepsJournals before now → Journaled before now member d (see_ended (Err (unkept_see why)))
 see_maybe_kept before now member d x unkept.KeepFault is kept = subst (λ (y : Option Record). Keeps before now member y ⊎ KeepsJournals before now) (sym is) kept
 see_maybe_kept before now member d x unkept.OutOfMemory is kept = subst (λ (y : Option Record). Keeps before now member y ⊎ KeepsJournals before now) (sym is) kept
 

@@ -20,8 +20,8 @@ use Rattle.validator_core.specs.Courses.{Coursed, turned_in}
 use Rattle.validator_core.specs.Seats.{Becomes, Behaves, Ended, Journaled, Keeps, answered, fell, has_fallen}
 use Rattle.validator_core.specs.Sound.{member_with}
 use Rattle.validator_core.specs.Steps.{turning}
-use Rattle.validator_core.specs.declared.keeping.Unkept.{Unkept}
-use Rattle.validator_core.specs.declared.keeping.Unkept.TheVariants as unkept
+use Rattle.validator_core.specs.declared.keeping.JournalFault.{JournalFault}
+use Rattle.validator_core.specs.declared.keeping.JournalFault.TheVariants as unkept
 use Rattle.world_spec.proofs.RulesAside.{turn_answer_alike, turn_called_alike, turn_due_alike}
 use Rattle.world_spec.specs.Seats.{Seated, bare_rules, due_at}
 use Rattle.validator_core.proofs.Refusing.{free, none_stops, stop, stopped_by}
@@ -108,7 +108,7 @@ pub turn_called : (m next : Member) → free ≡ unless_refused (first_some (tur
 unfolding after
 turn_called m next goes step = step ∙ ap (after_due bare m) (sym (turn_due m goes))
 
-pub turn_maybe_kept : (before now : Option Journals) (member : ℕ) (d x : Option Record) (why : Unkept) → d ≡ x → Keeps before now member x ⊎ KeepsJournals before now → Journaled before now member d (turn_ended (Err (unkept_turn why)))
+pub turn_maybe_kept : (before now : Option Journals) (member : ℕ) (d x : Option Record) (why : JournalFault) → d ≡ x → Keeps before now member x ⊎ KeepsJournals before now → Journaled before now member d (turn_ended (Err (unkept_turn why)))
 turn_maybe_kept before now member d x unkept.KeepFault is kept = maybe_kept before now member d x is kept
 turn_maybe_kept before now member d x unkept.OutOfMemory is kept = maybe_kept before now member d x is kept
 

@@ -24,9 +24,9 @@ use Rattle.protocol_spec.specs.declared.refusals.RunRefusal.TheVariants as no_ru
 use Rattle.protocol_spec.specs.declared.refusals.CloseRefusal.{CloseRefusal}
 use Rattle.protocol_spec.specs.declared.refusals.CloseRefusal.TheVariants as no_close
 use Rattle.protocol_spec.specs.Member.Calls.{Voted, full, halted}
-use Rattle.validator_core.specs.declared.votes.Decision.{Decision}
-use Rattle.validator_core.specs.declared.holds.Holding.{Holding}
-use Rattle.validator_core.specs.declared.holds.Holding.TheVariants as holding
+use Rattle.validator_core.specs.declared.votes.DecidedVote.{DecidedVote}
+use Rattle.validator_core.specs.declared.holds.CertificateOutcome.{CertificateOutcome}
+use Rattle.validator_core.specs.declared.holds.CertificateOutcome.TheVariants as holding
 use Rattle.world_spec.specs.Terms.{Terms, rules_for}
 
 -- terms of an empty committee, for calls in which the terms play no part
@@ -44,34 +44,34 @@ abbrev pub unsealed_where : Bool → Option VoteRefusal
 unsealed_where sealed = where_true (not sealed) no_vote.Unsealed
 
 -- the vote that a decision gives
-abbrev pub vote_as : ℕ → Decision → Voted
+abbrev pub vote_as : ℕ → DecidedVote → Voted
 vote_as epoch d = record { statement = statement.Vote epoch d.digest d.origins; fresh = d.fresh }
 
-abbrev pub VotesAs : ℕ → Result Voted VoteRefusal → Result Decision VoteRefusal → Type 0
+abbrev pub VotesAs : ℕ → Result Voted VoteRefusal → Result DecidedVote VoteRefusal → Type 0
 VotesAs epoch said (Ok d) = said ≡ Ok (vote_as epoch d)
 VotesAs epoch said (Err no_vote.OutOfMemory) = Unit {0}
 VotesAs epoch said (Err refusal) = said ≡ Err refusal
 
 -- the decision alone, out of the code's triple of transaction, decision and encoded transaction
-abbrev pub decision_in : {B : Type 0} → Result (Transaction × Decision × B) VoteRefusal → Result Decision VoteRefusal
+abbrev pub decision_in : {B : Type 0} → Result (Transaction × DecidedVote × B) VoteRefusal → Result DecidedVote VoteRefusal
 decision_in (Ok v) = Ok v.1
 decision_in (Err refusal) = Err refusal
 
 -- the answer is the vote that was given before, with these origins
-abbrev pub Repeats : Digest → List (Option Digest) → Result Decision VoteRefusal → Type 0
+abbrev pub Repeats : Digest → List (Option Digest) → Result DecidedVote VoteRefusal → Type 0
 Repeats digest origins (Ok d) = d ≡ record { digest = digest; origins = origins; fresh = false }
 Repeats digest origins (Err no_vote.OutOfMemory) = Unit {0}
 Repeats digest origins (Err refusal) = ⊥
 
 -- the record that is due for a vote: that of a fresh one
-abbrev pub VoteDue : {B : Type 0} → Option Record → Result (Transaction × Decision × B) VoteRefusal → Type 0
+abbrev pub VoteDue : {B : Type 0} → Option Record → Result (Transaction × DecidedVote × B) VoteRefusal → Type 0
 VoteDue due (Ok v) = due ≡ (if v.1.fresh then Some (record_as.Vote v.0 v.1.origins) else None)
 VoteDue due (Err no_vote.OutOfMemory) = Unit {0}
 VoteDue due (Err refusal) = due ≡ None
 
 -- what makes a decision safe to keep: the digest is the transaction's, and a fresh vote is the first for it and
 -- consumes no version of a vote for another
-pub record IsFree (m : Member) (t : Transaction) (d : Decision) : Type 0 where
+pub record IsFree (m : Member) (t : Transaction) (d : DecidedVote) : Type 0 where
   pub digest : d.digest ≡ transaction_digest t
   pub new : d.fresh ≡ true → vote_for m d.digest ≡ None
   pub few : length d.origins ≤ 257
@@ -79,7 +79,7 @@ pub record IsFree (m : Member) (t : Transaction) (d : Decision) : Type 0 where
 
 -- ---- certificates
 
-abbrev pub HoldsAs : Result Bool HoldRefusal → Result Holding HoldRefusal → Type 0
+abbrev pub HoldsAs : Result Bool HoldRefusal → Result CertificateOutcome HoldRefusal → Type 0
 HoldsAs said (Ok holding.Again) = said ≡ Ok false
 HoldsAs said (Ok (holding.New digest)) = said ≡ Ok true
 HoldsAs said (Ok (holding.Fork key first digest)) = said ≡ Err (no_hold.Fork key first digest)
@@ -87,13 +87,13 @@ HoldsAs said (Err no_hold.OutOfMemory) = Unit {0}
 HoldsAs said (Err (no_hold.Fork key first second)) = ⊥
 HoldsAs said (Err refusal) = said ≡ Err refusal
 
--- the `Holding` alone, out of the code's pair with the certificate
-abbrev pub holding_in : Result (Certificate × Holding) HoldRefusal → Result Holding HoldRefusal
+-- the `CertificateOutcome` alone, out of the code's pair with the certificate
+abbrev pub holding_in : Result (Certificate × CertificateOutcome) HoldRefusal → Result CertificateOutcome HoldRefusal
 holding_in (Ok h) = Ok h.1
 holding_in (Err refusal) = Err refusal
 
 -- the record that is due for a certificate: it is kept if it is new, or the evidence of a fork
-abbrev pub HoldDue : Option Record → Result (Certificate × Holding) HoldRefusal → Type 0
+abbrev pub HoldDue : Option Record → Result (Certificate × CertificateOutcome) HoldRefusal → Type 0
 HoldDue due (Ok (c, holding.Again)) = due ≡ None
 HoldDue due (Ok (c, holding.New digest)) = due ≡ Some (record_as.Hold c)
 HoldDue due (Ok (c, holding.Fork key first digest)) = due ≡ Some (record_as.Hold c)
@@ -108,7 +108,7 @@ pub record MayHold (m : Member) (c : Certificate) (digest : Digest) : Type 0 whe
   pub new : is_some (held_of m.held digest) ≡ false
 
 -- a certificate that is to be kept, as new or as the evidence of a fork, may be held
-abbrev pub IsHeldAs : Member → Certificate → Holding → Type 0
+abbrev pub IsHeldAs : Member → Certificate → CertificateOutcome → Type 0
 IsHeldAs m c holding.Again = Unit {0}
 IsHeldAs m c (holding.New digest) = MayHold m c digest
 IsHeldAs m c (holding.Fork key first digest) = MayHold m c digest

@@ -31,8 +31,8 @@ use Rattle.protocol_spec.specs.declared.answers.Seen.{Seen}
 use Rattle.protocol_spec.specs.declared.refusals.SeeRefusal.{SeeRefusal}
 use Rattle.protocol_spec.specs.declared.refusals.SeeRefusal.TheVariants as no_see
 use Rattle.protocol_spec.specs.Member.Calls.{Voted, ack_answer, close_answer, end_answer, hold_answer, run_answer, see_answer, turn_answer, vote_answer}
-use Rattle.validator_core.specs.declared.keeping.Unkept.{Unkept}
-use Rattle.validator_core.specs.declared.keeping.Unkept.TheVariants as unkept
+use Rattle.validator_core.specs.declared.keeping.JournalFault.{JournalFault}
+use Rattle.validator_core.specs.declared.keeping.JournalFault.TheVariants as unkept
 use Rattle.validator_core.specs.Seats.{Ended, answered, fell}
 use Rattle.world_spec.specs.Seats.{Seated}
 
@@ -59,7 +59,7 @@ Votes accepts member said (Err no_vote.OutOfMemory) = Unit {0}
 Votes accepts member said (Err no_vote.KeepFault) = Unit {0}
 Votes accepts member said (Err refusal) = said ≡ Err refusal
 
-abbrev pub unkept_vote : Unkept → VoteRefusal
+abbrev pub unkept_vote : JournalFault → VoteRefusal
 unkept_vote unkept.KeepFault = no_vote.KeepFault
 unkept_vote unkept.OutOfMemory = no_vote.OutOfMemory
 
@@ -80,7 +80,7 @@ Holds said (Err no_hold.OutOfMemory) = Unit {0}
 Holds said (Err no_hold.KeepFault) = Unit {0}
 Holds said (Err refusal) = said ≡ Err refusal
 
-abbrev pub unkept_hold : Unkept → HoldRefusal
+abbrev pub unkept_hold : JournalFault → HoldRefusal
 unkept_hold unkept.KeepFault = no_hold.KeepFault
 unkept_hold unkept.OutOfMemory = no_hold.OutOfMemory
 
@@ -101,7 +101,7 @@ Sees said (Err no_see.OutOfMemory) = Unit {0}
 Sees said (Err no_see.KeepFault) = Unit {0}
 Sees said (Err refusal) = said ≡ Err refusal
 
-abbrev pub unkept_see : Unkept → SeeRefusal
+abbrev pub unkept_see : JournalFault → SeeRefusal
 unkept_see unkept.KeepFault = no_see.KeepFault
 unkept_see unkept.OutOfMemory = no_see.OutOfMemory
 
@@ -122,7 +122,7 @@ Runs said (Err no_run.OutOfMemory) = Unit {0}
 Runs said (Err no_run.KeepFault) = Unit {0}
 Runs said (Err refusal) = said ≡ Err refusal
 
-abbrev pub unkept_run : Unkept → RunRefusal
+abbrev pub unkept_run : JournalFault → RunRefusal
 unkept_run unkept.KeepFault = no_run.KeepFault
 unkept_run unkept.OutOfMemory = no_run.OutOfMemory
 
@@ -143,7 +143,7 @@ Closes said (Err no_close.OutOfMemory) = Unit {0}
 Closes said (Err no_close.KeepFault) = Unit {0}
 Closes said (Err refusal) = said ≡ Err refusal
 
-abbrev pub unkept_close : Unkept → CloseRefusal
+abbrev pub unkept_close : JournalFault → CloseRefusal
 unkept_close unkept.KeepFault = no_close.KeepFault
 unkept_close unkept.OutOfMemory = no_close.OutOfMemory
 
@@ -186,7 +186,7 @@ Turns said (Err no_turn.OutOfMemory) = Unit {0}
 Turns said (Err no_turn.KeepFault) = Unit {0}
 Turns said (Err refusal) = said ≡ Err refusal
 
-abbrev pub unkept_turn : Unkept → TurnRefusal
+abbrev pub unkept_turn : JournalFault → TurnRefusal
 unkept_turn unkept.KeepFault = no_turn.KeepFault
 unkept_turn unkept.OutOfMemory = no_turn.OutOfMemory
 

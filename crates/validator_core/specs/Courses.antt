@@ -19,12 +19,12 @@ use Rattle.epoch_turn.specs.Openings.{Opens}
 use Rattle.exec_plan.specs.Books.{IsSound as IsSoundHeld}
 use Rattle.exec_plan.specs.Waits.{IsWaiting, StoodBefore}
 use Rattle.version_assign.specs.Sharing.{HasShared}
-use Rattle.validator_core.specs.declared.course.Course.{Course}
-use Rattle.validator_core.specs.declared.entries.Arrival.{Arrival}
-use Rattle.validator_core.specs.declared.entries.Arrival.TheVariants as arrival
+use Rattle.validator_core.specs.declared.epoch_state.EpochState.{EpochState}
+use Rattle.validator_core.specs.declared.entries.EntryOutcome.{EntryOutcome}
+use Rattle.validator_core.specs.declared.entries.EntryOutcome.TheVariants as arrival
 
 -- the sequence as the member has seen it
-abbrev pub sequence_in : Course → Sequence
+abbrev pub sequence_in : EpochState → Sequence
 sequence_in c = record {
   number = c.seen;
   admission = c.admission.admission;
@@ -43,7 +43,7 @@ pub record Coursed : Type 0 where
   pub sequence : Sequence
   pub past : List Checkpoint
 
-abbrev pub coursed : Course → Coursed
+abbrev pub coursed : EpochState → Coursed
 coursed c = record {
   writers = c.admission.writers;
   epoch = c.epoch;
@@ -79,11 +79,11 @@ pub record AreHeld (held : List Held) (a : Admission) : Type 0 where
   pub admitted : Each (IsHeldIn held) a.admitted
   pub pending : Each (WaitsIn held) a.pending
 
-abbrev pub HasOpening : Course → Type 0
+abbrev pub HasOpening : EpochState → Type 0
 HasOpening c = Opens c.admission.opening c.store.opening
 
 -- the tables are consistent, but the chain may have checkpoints to build
-pub record IsUnbuilt (c : Course) : Type 0 where
+pub record IsUnbuilt (c : EpochState) : Type 0 where
   pub held : Each IsSoundHeld c.held
   pub waits : IsWaiting c.store c.admission.admission c.held c.waiting
   pub opening : HasOpening c
@@ -95,13 +95,13 @@ pub record IsUnbuilt (c : Course) : Type 0 where
   pub behind : IsBehind c.epoch c.store.executed c.chain
 
 -- the tables are consistent, and the chain has built all that it can
-pub record IsSound (c : Course) : Type 0 where
+pub record IsSound (c : EpochState) : Type 0 where
   pub unbuilt : IsUnbuilt c
   pub ahead : IsAhead c.epoch c.store.executed c.chain
   pub all : BuildsAll c.epoch c.store.executed c.chain
 
 -- the tables are consistent, but the chain and the wait lists know of only the first `from` admitted transactions
-pub record IsAdmitting (from : ℕ) (c : Course) : Type 0 where
+pub record IsAdmitting (from : ℕ) (c : EpochState) : Type 0 where
   pub held : Each IsSoundHeld c.held
   pub waits : StoodBefore c.store c.admission.admission (map digest_of_admitted (drop from c.admission.admission.admitted)) c.held c.waiting
   pub opening : HasOpening c
@@ -114,7 +114,7 @@ pub record IsAdmitting (from : ℕ) (c : Course) : Type 0 where
   pub behind : IsBehind c.epoch c.store.executed c.chain
 
 -- what no step of an epoch changes, even if memory is refused half way
-pub record Stays (old new : Course) : Type 0 where
+pub record Stays (old new : EpochState) : Type 0 where
   pub writers : new.admission.writers ≡ old.admission.writers
   pub opening : HasOpening old → HasOpening new
 
@@ -150,7 +150,7 @@ abbrev pub reverted_in : Coursed → List Digest
 reverted_in c = map (λ (x : Execution). x.digest) (filter (λ (x : Execution). not (is_cut c.sequence.cuts x.digest)) c.executed)
 
 -- what an entry does to a course, but for the count of entries seen
-abbrev pub arrives : List ℕ → Coursed → Arrival → Coursed
+abbrev pub arrives : List ℕ → Coursed → EntryOutcome → Coursed
 arrives stakes c (arrival.Takes h) = brings c h
 arrives stakes c arrival.Commits = marks c
 arrives stakes c (arrival.Counts member) = ends stakes c member

@@ -1,4 +1,4 @@
--- The code's `Arrival` of an entry as the definition's `What`, and what an entry must be to be taken.
+-- The code's `EntryOutcome` of an entry as the definition's `What`, and what an entry must be to be taken.
 use Rattle.std.specs.Prelude.{◌≡◌, ◌<◌, ◌+◌, ℕ, false, List, Option, Some, None, length}
 use Rattle.digest_core.specs.declared.Digest.{Digest}
 use Rattle.chain_types.specs.declared.objects.ObjectId.{ObjectId}
@@ -14,10 +14,10 @@ use Rattle.protocol_spec.specs.Chain.Shape.{shape_fault}
 use Rattle.protocol_spec.specs.Member.Admission.{is_known}
 use Rattle.protocol_spec.specs.Member.Member.{Member, held_with}
 use Rattle.protocol_spec.specs.Member.Sequence.{Sequence, What, commits, counts, ignores, takes, with_entry}
-use Rattle.validator_core.specs.declared.entries.Arrival.{Arrival}
-use Rattle.validator_core.specs.declared.entries.Arrival.TheVariants as arrival
+use Rattle.validator_core.specs.declared.entries.EntryOutcome.{EntryOutcome}
+use Rattle.validator_core.specs.declared.entries.EntryOutcome.TheVariants as arrival
 
-abbrev pub what_as : Arrival → What
+abbrev pub what_as : EntryOutcome → What
 what_as (arrival.Takes h) = takes h
 what_as arrival.Commits = commits
 what_as (arrival.Counts m) = counts m
@@ -36,7 +36,7 @@ pub record IsEnding (stakes : List ℕ) (q : Sequence) (m : ℕ) : Type 0 where
   pub new : is_among q.counted m ≡ false
 
 -- what holds of an arrival that `read_entry` gives, so that it may be taken
-abbrev pub MayArrive : List ℕ → Sequence → Arrival → Type 0
+abbrev pub MayArrive : List ℕ → Sequence → EntryOutcome → Type 0
 MayArrive stakes q (arrival.Takes h) = IsArriving q h
 MayArrive stakes q arrival.Commits = Unit {0}
 MayArrive stakes q (arrival.Counts m) = IsEnding stakes q m

@@ -6,7 +6,7 @@ use Rattle.outside.specs.Lists.{Journals, AddsRecord, KeepsJournals}
 use Rattle.protocol_spec.specs.Chain.Certificates.{Rules}
 use Rattle.protocol_spec.specs.Member.Member.{Member, fresh}
 use Rattle.protocol_spec.specs.Member.Calls.{Call, due}
-use Rattle.validator_core.specs.declared.keeping.Unkept.{Unkept}
+use Rattle.validator_core.specs.declared.keeping.JournalFault.{JournalFault}
 use Rattle.world_spec.specs.Seats.{Seated, behind}
 
 -- ---- how a call ended
@@ -44,12 +44,12 @@ Keeps before now member None = KeepsJournals before now
 Keeps before now member (Some x) = AddsRecord before now member (journals.journal_record.spell x)
 
 -- after an append: at Ok the record was added; else it was, or the lists are as before
-abbrev pub Appended : Option Journals → Option Journals → ℕ → Record → Result (Unit {0}) Unkept → Type 0
+abbrev pub Appended : Option Journals → Option Journals → ℕ → Record → Result (Unit {0}) JournalFault → Type 0
 Appended before now member x (Ok done) = AddsRecord before now member (journals.journal_record.spell x)
 Appended before now member x (Err why) = AddsRecord before now member (journals.journal_record.spell x) ⊎ KeepsJournals before now
 
 -- `Appended` if there may be no record to append
-abbrev pub AppendedWhere : Option Journals → Option Journals → ℕ → Option Record → Result (Unit {0}) Unkept → Type 0
+abbrev pub AppendedWhere : Option Journals → Option Journals → ℕ → Option Record → Result (Unit {0}) JournalFault → Type 0
 AppendedWhere before now member due (Ok done) = Keeps before now member due
 AppendedWhere before now member due (Err why) = Keeps before now member due ⊎ KeepsJournals before now
 

@@ -5,7 +5,7 @@ use Rattle.protocol_spec.specs.Member.Member.{Member}
 use Rattle.protocol_spec.specs.Member.Votes.{Cast}
 use Rattle.epoch_turn.specs.Dues.{front_length, is_ordered}
 use Rattle.validator_core.specs.Courses.{Coursed, IsSound, coursed}
-use Rattle.validator_core.specs.declared.course.Course.{Course}
+use Rattle.validator_core.specs.declared.epoch_state.EpochState.{EpochState}
 
 -- the definition's member from the parts of a state: number of records, whether it closed, votes, and the course
 abbrev pub member_with : ℕ → Bool → List Cast → Coursed → Member
@@ -34,7 +34,7 @@ ordered_front c = front_length (is_ordered c.sequence.admission) c.held
 
 -- the invariant of a state: votes have few origins, the course is sound, entries seen have their records, and the
 -- first `ordered` held certificates are in the sequence
-pub record Stands (records : ℕ) (votes : List Cast) (ordered : ℕ) (c : Course) : Type 0 where
+pub record Stands (records : ℕ) (votes : List Cast) (ordered : ℕ) (c : EpochState) : Type 0 where
   pub few : AllFew votes
   pub sound : IsSound c
   pub seen : c.seen ≤ records

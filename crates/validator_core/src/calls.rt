@@ -17,14 +17,14 @@ ghost use Rattle.validator_core.specs.Steps.{voted};
 ghost use Rattle.journal_core.specs.Records as journals;
 ghost use Rattle.journal_core.specs.Encoded.{IsEncodedIn};
 ghost use Rattle.validator_core.specs.Taking.{MayTake, taken};
-ghost use Rattle.validator_core.specs.declared.keeping.Unkept.TheVariants as unkept;
+ghost use Rattle.validator_core.specs.declared.keeping.JournalFault.TheVariants as unkept;
 ghost use Rattle.validator_core.specs.Calls.{Holds, IsSealedBy, Votes, hold_ended, origins_in, vote_ended};
 ghost use Rattle.validator_core.specs.Seats.{Appended, Becomes, Journaled, has_fallen};
 
-use crate::holds::Holding;
-use crate::keeping::{Unkept, append_encoded};
+use crate::holds::CertificateOutcome;
+use crate::keeping::{JournalFault, append_encoded};
 use crate::state::State;
-use crate::votes::Decision;
+use crate::votes::DecidedVote;
 use chain_messages::{Certificate, Sealed, Statement, encode_statement};
 use chain_types::Transaction;
 use digest_core::Digest;
@@ -42,7 +42,7 @@ fn seal_vote<S: Sealer>(
     sealer: &S,
     member: u32,
     epoch: u64,
-    decision: &Decision,
+    decision: &DecidedVote,
 ) -> Result<Sealed, OutOfMemory>
     requires { length decision.now.origins ≤ 257 }
     ensures said { IfOk result (λ s. s.statement ≡ statements.Vote epoch decision.now.digest decision.now.origins) }
@@ -91,7 +91,7 @@ fn keep<D: Keeper>(
     kept: Record,
     digest: Digest,
     encoded: &[u8],
-) -> Result<(), Unkept>
+) -> Result<(), JournalFault>
     requires known { member < D.width keeper.old }
     requires encoded { IsEncodedIn kept encoded.now }
     requires may { MayTake state.old.member digest kept }
@@ -110,7 +110,7 @@ fn keep<D: Keeper>(
     }
     match take(state, kept, digest) {
         Ok(()) => Ok(()),
-        Err(OutOfMemory) => Err(Unkept::OutOfMemory),
+        Err(OutOfMemory) => Err(JournalFault::OutOfMemory),
     }
 }
 
@@ -122,8 +122,8 @@ fn keep_vote<D: Keeper>(
     member: u32,
     tx: Transaction,
     tx_bytes: &[u8],
-    decision: Decision,
-) -> Result<(), Unkept>
+    decision: DecidedVote,
+) -> Result<(), JournalFault>
     requires known { member < D.width keeper.old }
     requires short { transaction.short tx }
     requires encoded { tx_bytes.now ≡ transaction.spell tx }
@@ -185,7 +185,7 @@ pub(crate) fn vote<D: Keeper, S: Sealer>(
 }
 
 /// Whether the member is down after this answer.
-pub(crate) fn vote_fell(answer: &Result<Voted, VoteRefusal>) -> bool
+pub(crate) fn vote_is_fatal(answer: &Result<Voted, VoteRefusal>) -> bool
     ensures { result ≡ has_fallen (vote_ended answer.now) }
 {
     match answer {
@@ -234,12 +234,12 @@ pub(crate) fn hold<D: Keeper, S: Sealer>(
 {
     let (cert, holding) = state.hold(committee, sealer, bytes)?;
     match holding {
-        Holding::Again => Ok(false),
-        Holding::New(digest) => {
+        CertificateOutcome::Again => Ok(false),
+        CertificateOutcome::New(digest) => {
             keep(state, keeper, member, Record::Hold(cert), digest, bytes)?;
             Ok(true)
         }
-        Holding::Fork { key, first, digest } => {
+        CertificateOutcome::Fork { key, first, digest } => {
             keep(state, keeper, member, Record::Hold(cert), digest, bytes)?;
             Err(HoldRefusal::Fork {
                 key,
@@ -251,7 +251,7 @@ pub(crate) fn hold<D: Keeper, S: Sealer>(
 }
 
 /// Whether the member is down after this answer.
-pub(crate) fn hold_fell(answer: &Result<bool, HoldRefusal>) -> bool
+pub(crate) fn hold_is_fatal(answer: &Result<bool, HoldRefusal>) -> bool
     ensures { result ≡ has_fallen (hold_ended answer.now) }
 {
     match answer {

@@ -21,7 +21,7 @@ use wire_bcs::{OutOfMemory, Unread};
 
 /// What an entry is to the member, before it does anything.
 #[derive(Debug, Drop)]
-pub(crate) enum Arrival {
+pub(crate) enum EntryOutcome {
     /// A valid certificate whose transaction is not in the sequence.
     Takes(Held),
     /// The mark at which a checkpoint is cut.
@@ -56,22 +56,22 @@ impl State {
         sealer: &S,
         said: &Sealed,
         epoch: u64,
-    ) -> Result<Arrival, OutOfMemory>
+    ) -> Result<EntryOutcome, OutOfMemory>
         requires short { statement.short said.now.statement }
         requires end { said.now.statement ≡ statements.End epoch }
         ensures what { IfOk result (λ a. what_stated (rules_for (terms_at self.now committee.now) (S.accepts sealer.now)) self.now.member.epoch self.now.member.sequence said.now (statements.End epoch) ≡ what_as a) }
         ensures may { IfOk result (MayArrive committee.now self.now.member.sequence) }
     {
         if epoch != self.epoch() {
-            return Ok(Arrival::Ignores(Ignore::Epoch));
+            return Ok(EntryOutcome::Ignores(Ignore::Epoch));
         }
         if !self.is_accepted(committee, sealer, said)? {
-            return Ok(Arrival::Ignores(Ignore::Seal));
+            return Ok(EntryOutcome::Ignores(Ignore::Seal));
         }
         if self.is_counted(said.member) {
-            return Ok(Arrival::Ignores(Ignore::Repeat));
+            return Ok(EntryOutcome::Ignores(Ignore::Repeat));
         }
-        Ok(Arrival::Counts(said.member))
+        Ok(EntryOutcome::Counts(said.member))
     }
 
     /// What a member stated: only an End counts.
@@ -81,7 +81,7 @@ impl State {
         committee: &Committee,
         sealer: &S,
         said: &Sealed,
-    ) -> Result<Arrival, OutOfMemory>
+    ) -> Result<EntryOutcome, OutOfMemory>
         requires { sealed.short said.now }
         ensures what { IfOk result (λ a. what_stated (rules_for (terms_at self.now committee.now) (S.accepts sealer.now)) self.now.member.epoch self.now.member.sequence said.now said.now.statement ≡ what_as a) }
         ensures may { IfOk result (MayArrive committee.now self.now.member.sequence) }
@@ -89,7 +89,7 @@ impl State {
         match said.statement {
             Statement::End { epoch } => self.read_end(committee, sealer, said, epoch),
             Statement::Vote { .. } | Statement::Checkpoint { .. } | Statement::Ack { .. } => {
-                Ok(Arrival::Ignores(Ignore::Statement))
+                Ok(EntryOutcome::Ignores(Ignore::Statement))
             }
         }
     }
@@ -101,25 +101,25 @@ impl State {
         sealer: &S,
         cert: Certificate,
         tx_bytes: &[u8],
-    ) -> Result<Arrival, OutOfMemory>
+    ) -> Result<EntryOutcome, OutOfMemory>
         requires { tx_bytes.now ≡ transaction.spell cert.tx }
         ensures what { IfOk result (λ a. what_read (rules_for (terms_at self.now committee.now) (S.accepts sealer.now)) self.now.member.epoch self.now.member.sequence (Ok (read.Cert cert)) ≡ what_as a) }
         ensures may { IfOk result (MayArrive committee.now self.now.member.sequence) }
     {
         if cert.tx.epoch != self.epoch() {
-            return Ok(Arrival::Ignores(Ignore::Epoch));
+            return Ok(EntryOutcome::Ignores(Ignore::Epoch));
         }
         let digest = encoded_digest(&cert.tx, tx_bytes);
         match check_cert(self.alloc, &cert, &digest, committee, sealer) {
             Ok(()) => {}
             Err(CertRefusal::OutOfMemory) => return Err(OutOfMemory),
-            Err(_refusal) => return Ok(Arrival::Ignores(Ignore::Cert)),
+            Err(_refusal) => return Ok(EntryOutcome::Ignores(Ignore::Cert)),
         }
         if self.is_ordered(&digest) {
-            return Ok(Arrival::Ignores(Ignore::Repeat));
+            return Ok(EntryOutcome::Ignores(Ignore::Repeat));
         }
         let cert = SharedCertificate::new(self.alloc, cert)?;
-        Ok(Arrival::Takes(Held { digest, cert }))
+        Ok(EntryOutcome::Takes(Held { digest, cert }))
     }
 
     /// What the bytes of the next entry are to the member (Sui Lutris; the causes and their order are this profile's):
@@ -130,19 +130,19 @@ impl State {
         committee: &Committee,
         sealer: &S,
         bytes: &[u8],
-    ) -> Result<Arrival, OutOfMemory>
+    ) -> Result<EntryOutcome, OutOfMemory>
         ensures what { IfOk result (λ a. what_of (rules_for (terms_at self.now committee.now) (S.accepts sealer.now)) self.now.member.epoch self.now.member.sequence bytes.now ≡ what_as a) }
         ensures may { IfOk result (MayArrive committee.now self.now.member.sequence) }
     {
         let (entry, tx_bytes) = match decode_entry_with(self.alloc, bytes) {
             Ok(read) => read,
-            Err(Unread::Wire(_)) => return Ok(Arrival::Ignores(Ignore::Malformed)),
+            Err(Unread::Wire(_)) => return Ok(EntryOutcome::Ignores(Ignore::Malformed)),
             Err(Unread::OutOfMemory) => return Err(OutOfMemory),
         };
         match entry {
             Entry::Cert(cert) => self.read_cert(committee, sealer, cert, tx_bytes),
             Entry::End(said) => self.read_stated(committee, sealer, &said),
-            Entry::Commit => Ok(Arrival::Commits),
+            Entry::Commit => Ok(EntryOutcome::Commits),
         }
     }
 }

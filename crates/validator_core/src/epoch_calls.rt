@@ -9,11 +9,11 @@ ghost use Rattle.protocol_spec.specs.declared.refusals.CloseRefusal.TheVariants 
 ghost use Rattle.protocol_spec.specs.declared.refusals.RunRefusal.TheVariants as no_run;
 ghost use Rattle.validator_core.specs.Answers.{bare};
 ghost use Rattle.validator_core.specs.Steps.{closing, counted_where, items_of};
-ghost use Rattle.validator_core.specs.declared.keeping.Unkept.TheVariants as unkept;
+ghost use Rattle.validator_core.specs.declared.keeping.JournalFault.TheVariants as unkept;
 ghost use Rattle.validator_core.specs.Calls.{Closes, Runs, close_ended, run_ended};
 ghost use Rattle.validator_core.specs.Seats.{Appended, AppendedWhere, Becomes, Journaled, has_fallen};
 
-use crate::keeping::{Unkept, append};
+use crate::keeping::{JournalFault, append};
 use crate::runs::ran_record;
 use crate::state::State;
 use dag_pool::Gate;
@@ -31,7 +31,7 @@ fn keep_run<D: Keeper>(
     keeper: &mut D,
     member: u32,
     effects: &[HashedEffects],
-) -> Result<(), Unkept>
+) -> Result<(), JournalFault>
     requires known { member < D.width keeper.old }
     requires room { nat_le record_limit state.old.member.records ≡ false }
     ensures state { OnOk result (state.new.member ≡ counted_where (ran_record (items_of effects.now)) state.old.member) }
@@ -45,7 +45,7 @@ fn keep_run<D: Keeper>(
     let kept = match ran_record(state.allocator(), effects) {
         Ok(Some(kept)) => kept,
         Ok(None) => return Ok(()),
-        Err(OutOfMemory) => return Err(Unkept::OutOfMemory),
+        Err(OutOfMemory) => return Err(JournalFault::OutOfMemory),
     };
     match append(state.allocator(), keeper, member, &kept) {
         Ok(()) => {}
@@ -89,7 +89,7 @@ pub(crate) fn run<R: Threads + Sync, D: Keeper, G: Gate + Sync>(
 }
 
 /// Whether the member is down after this answer.
-pub(crate) fn run_fell(answer: &Result<Ran, RunRefusal>) -> bool
+pub(crate) fn run_is_fatal(answer: &Result<Ran, RunRefusal>) -> bool
     ensures { result ≡ has_fallen (run_ended answer.now) }
 {
     match answer {
@@ -101,7 +101,7 @@ pub(crate) fn run_fell(answer: &Result<Ran, RunRefusal>) -> bool
 
 /// Appends the record of a close, and takes it.
 #[tactic(auto, unfolding(journal_core::specs::Records::journal_record))]
-fn keep_close<D: Keeper>(state: &mut State, keeper: &mut D, member: u32) -> Result<(), Unkept>
+fn keep_close<D: Keeper>(state: &mut State, keeper: &mut D, member: u32) -> Result<(), JournalFault>
     requires known { member < D.width keeper.old }
     requires room { nat_le record_limit state.old.member.records ≡ false }
     ensures state { OnOk result (state.new.member ≡ closing state.old.member) }
@@ -149,7 +149,7 @@ pub(crate) fn close<D: Keeper>(
 }
 
 /// Whether the member is down after this answer.
-pub(crate) fn close_fell(answer: &Result<bool, CloseRefusal>) -> bool
+pub(crate) fn close_is_fatal(answer: &Result<bool, CloseRefusal>) -> bool
     ensures { result ≡ has_fallen (close_ended answer.now) }
 {
     match answer {

@@ -24,7 +24,7 @@ use wire_bcs::Unread;
 
 /// What becomes of a certificate that is not refused.
 #[derive(Clone, Copy, Debug, PartialEq, Eq)]
-pub(crate) enum Holding {
+pub(crate) enum CertificateOutcome {
     /// Its transaction's certificate is held already.
     Again,
     /// It is to be held, under this digest of its transaction.
@@ -61,7 +61,7 @@ impl State {
         sealer: &S,
         cert: &Certificate,
         digest: Digest,
-    ) -> Result<Holding, HoldRefusal>
+    ) -> Result<CertificateOutcome, HoldRefusal>
         requires digest { digest ≡ transaction_digest cert.now.tx }
         requires new { is_some (held_of self.now.member.held digest) ≡ false }
         ensures answer { HoldsAs (new_hold (rules_for (terms_at self.now committee.now) (S.accepts sealer.now)) self.now.member cert.now) result }
@@ -80,8 +80,8 @@ impl State {
             return Err(HoldRefusal::OutOfMemory);
         };
         match self.consumed_by(keys.as_slice()) {
-            Some((key, first)) => Ok(Holding::Fork { key, first, digest }),
-            None => Ok(Holding::New(digest)),
+            Some((key, first)) => Ok(CertificateOutcome::Fork { key, first, digest }),
+            None => Ok(CertificateOutcome::New(digest)),
         }
     }
 
@@ -92,7 +92,7 @@ impl State {
         sealer: &S,
         cert: &Certificate,
         digest: Digest,
-    ) -> Result<Holding, HoldRefusal>
+    ) -> Result<CertificateOutcome, HoldRefusal>
         requires { digest ≡ transaction_digest cert.now.tx }
         ensures answer { HoldsAs (hold_certificate (rules_for (terms_at self.now committee.now) (S.accepts sealer.now)) self.now.member cert.now) result }
         ensures held { IfOk result (λ h. IsHeldAs self.now.member cert.now h) }
@@ -106,7 +106,7 @@ impl State {
             });
         }
         if self.holds(&digest) {
-            return Ok(Holding::Again);
+            return Ok(CertificateOutcome::Again);
         }
         self.new_hold(committee, sealer, cert, digest)
     }
@@ -119,7 +119,7 @@ impl State {
         committee: &Committee,
         sealer: &S,
         bytes: &[u8],
-    ) -> Result<(Certificate, Holding), HoldRefusal>
+    ) -> Result<(Certificate, CertificateOutcome), HoldRefusal>
         ensures answer { HoldsAs (hold_answer (rules_for (terms_at self.now committee.now) (S.accepts sealer.now)) self.now.member bytes.now) (holding_in result) }
         ensures due { HoldDue (due (rules_for (terms_at self.now committee.now) (S.accepts sealer.now)) self.now.member (holds bytes.now)) result }
         ensures held { IfOk result (λ h. IsHeldAs self.now.member h.0 h.1) }

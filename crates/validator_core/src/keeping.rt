@@ -6,7 +6,7 @@ ghost use Rattle.journal_core.specs.Encoded.{IsEncodedIn};
 ghost use Rattle.journal_core.specs.declared.records.Record.{Record};
 ghost use Rattle.journal_core.specs.declared.records.Record.TheVariants as record_as;
 ghost use Rattle.outside.specs.Causes.{Rose};
-ghost use Rattle.validator_core.specs.declared.keeping.Unkept.TheVariants as unkept;
+ghost use Rattle.validator_core.specs.declared.keeping.JournalFault.TheVariants as unkept;
 ghost use Rattle.validator_core.specs.Seats.{Appended};
 ghost use Rattle.validator_core.specs.Calls.{unkept_close, unkept_hold, unkept_run, unkept_see, unkept_turn, unkept_vote};
 
@@ -17,80 +17,80 @@ use std::alloc::Global;
 
 /// Why a record was not kept.
 #[derive(Clone, Copy, Debug, PartialEq, Eq)]
-pub(crate) enum Unkept {
+pub(crate) enum JournalFault {
     KeepFault,
     OutOfMemory,
 }
 
-impl From<Unkept> for VoteRefusal {
+impl From<JournalFault> for VoteRefusal {
     ghost from_gives = { λ why given. given ≡ unkept_vote why };
 
-    fn from(why: Unkept) -> VoteRefusal {
+    fn from(why: JournalFault) -> VoteRefusal {
         match why {
-            Unkept::KeepFault => VoteRefusal::KeepFault,
-            Unkept::OutOfMemory => VoteRefusal::OutOfMemory,
+            JournalFault::KeepFault => VoteRefusal::KeepFault,
+            JournalFault::OutOfMemory => VoteRefusal::OutOfMemory,
         }
     }
 }
 
-impl From<Unkept> for HoldRefusal {
+impl From<JournalFault> for HoldRefusal {
     ghost from_gives = { λ why given. given ≡ unkept_hold why };
 
-    fn from(why: Unkept) -> HoldRefusal {
+    fn from(why: JournalFault) -> HoldRefusal {
         match why {
-            Unkept::KeepFault => HoldRefusal::KeepFault,
-            Unkept::OutOfMemory => HoldRefusal::OutOfMemory,
+            JournalFault::KeepFault => HoldRefusal::KeepFault,
+            JournalFault::OutOfMemory => HoldRefusal::OutOfMemory,
         }
     }
 }
 
-impl From<Unkept> for SeeRefusal {
+impl From<JournalFault> for SeeRefusal {
     ghost from_gives = { λ why given. given ≡ unkept_see why };
 
-    fn from(why: Unkept) -> SeeRefusal {
+    fn from(why: JournalFault) -> SeeRefusal {
         match why {
-            Unkept::KeepFault => SeeRefusal::KeepFault,
-            Unkept::OutOfMemory => SeeRefusal::OutOfMemory,
+            JournalFault::KeepFault => SeeRefusal::KeepFault,
+            JournalFault::OutOfMemory => SeeRefusal::OutOfMemory,
         }
     }
 }
 
-impl From<Unkept> for RunRefusal {
+impl From<JournalFault> for RunRefusal {
     ghost from_gives = { λ why given. given ≡ unkept_run why };
 
-    fn from(why: Unkept) -> RunRefusal {
+    fn from(why: JournalFault) -> RunRefusal {
         match why {
-            Unkept::KeepFault => RunRefusal::KeepFault,
-            Unkept::OutOfMemory => RunRefusal::OutOfMemory,
+            JournalFault::KeepFault => RunRefusal::KeepFault,
+            JournalFault::OutOfMemory => RunRefusal::OutOfMemory,
         }
     }
 }
 
-impl From<Unkept> for CloseRefusal {
+impl From<JournalFault> for CloseRefusal {
     ghost from_gives = { λ why given. given ≡ unkept_close why };
 
-    fn from(why: Unkept) -> CloseRefusal {
+    fn from(why: JournalFault) -> CloseRefusal {
         match why {
-            Unkept::KeepFault => CloseRefusal::KeepFault,
-            Unkept::OutOfMemory => CloseRefusal::OutOfMemory,
+            JournalFault::KeepFault => CloseRefusal::KeepFault,
+            JournalFault::OutOfMemory => CloseRefusal::OutOfMemory,
         }
     }
 }
 
-impl From<Unkept> for TurnRefusal {
+impl From<JournalFault> for TurnRefusal {
     ghost from_gives = { λ why given. given ≡ unkept_turn why };
 
-    fn from(why: Unkept) -> TurnRefusal {
+    fn from(why: JournalFault) -> TurnRefusal {
         match why {
-            Unkept::KeepFault => TurnRefusal::KeepFault,
-            Unkept::OutOfMemory => TurnRefusal::OutOfMemory,
+            JournalFault::KeepFault => TurnRefusal::KeepFault,
+            JournalFault::OutOfMemory => TurnRefusal::OutOfMemory,
         }
     }
 }
 
 /// Appends the encoding of a record to the list of a member. One of 2^31 bytes, more than any that is due, counts as running out of
 /// memory.
-fn append_bytes<D: Keeper>(keeper: &mut D, member: u32, bytes: &[u8]) -> Result<(), Unkept>
+fn append_bytes<D: Keeper>(keeper: &mut D, member: u32, bytes: &[u8]) -> Result<(), JournalFault>
     requires known { member < D.width keeper.old }
     ensures kept { (kept : Record) → bytes.now ≡ journals.journal_record.spell kept → Appended (D.lists keeper.old) (D.lists keeper.new) member kept result }
     ensures width { D.width keeper.new ≡ D.width keeper.old }
@@ -98,12 +98,12 @@ fn append_bytes<D: Keeper>(keeper: &mut D, member: u32, bytes: &[u8]) -> Result<
     ensures fault { IsErrOf result unkept.KeepFault → Rose (D.failed keeper.old) (D.failed keeper.new) }
 {
     if bytes.len() >= 1 << 31 {
-        return Err(Unkept::OutOfMemory);
+        return Err(JournalFault::OutOfMemory);
     }
     match keeper.append(member, bytes) {
         Ok(()) => Ok(()),
-        Err(OutFault::Failed) => Err(Unkept::KeepFault),
-        Err(OutFault::OutOfMemory) => Err(Unkept::OutOfMemory),
+        Err(OutFault::Failed) => Err(JournalFault::KeepFault),
+        Err(OutFault::OutOfMemory) => Err(JournalFault::OutOfMemory),
     }
 }
 
@@ -113,7 +113,7 @@ pub(crate) fn append<D: Keeper>(
     keeper: &mut D,
     member: u32,
     kept: &Record,
-) -> Result<(), Unkept>
+) -> Result<(), JournalFault>
     requires known { member < D.width keeper.old }
     requires short { journals.journal_record.short kept.now }
     ensures kept { Appended (D.lists keeper.old) (D.lists keeper.new) member kept.now result }
@@ -122,7 +122,7 @@ pub(crate) fn append<D: Keeper>(
     ensures fault { IsErrOf result unkept.KeepFault → Rose (D.failed keeper.old) (D.failed keeper.new) }
 {
     let Ok(bytes) = encode_record(alloc, kept) else {
-        return Err(Unkept::OutOfMemory);
+        return Err(JournalFault::OutOfMemory);
     };
     append_bytes(keeper, member, bytes.as_slice())
 }
@@ -134,7 +134,7 @@ pub(crate) fn append_encoded<D: Keeper>(
     member: u32,
     kept: &Record,
     encoded: &[u8],
-) -> Result<(), Unkept>
+) -> Result<(), JournalFault>
     requires known { member < D.width keeper.old }
     requires short { journals.journal_record.short kept.now }
     requires encoded { IsEncodedIn kept.now encoded.now }
@@ -144,7 +144,7 @@ pub(crate) fn append_encoded<D: Keeper>(
     ensures fault { IsErrOf result unkept.KeepFault → Rose (D.failed keeper.old) (D.failed keeper.new) }
 {
     let Ok(bytes) = encode_record_with(alloc, kept, encoded) else {
-        return Err(Unkept::OutOfMemory);
+        return Err(JournalFault::OutOfMemory);
     };
     append_bytes(keeper, member, bytes.as_slice())
 }
@@ -155,7 +155,7 @@ pub(crate) fn append_see<D: Keeper>(
     keeper: &mut D,
     member: u32,
     entry: &[u8],
-) -> Result<(), Unkept>
+) -> Result<(), JournalFault>
     requires known { member < D.width keeper.old }
     ensures kept { Appended (D.lists keeper.old) (D.lists keeper.new) member (record_as.See entry.now) result }
     ensures width { D.width keeper.new ≡ D.width keeper.old }
@@ -163,10 +163,10 @@ pub(crate) fn append_see<D: Keeper>(
     ensures fault { IsErrOf result unkept.KeepFault → Rose (D.failed keeper.old) (D.failed keeper.new) }
 {
     if entry.len() >= 1 << 31 {
-        return Err(Unkept::OutOfMemory);
+        return Err(JournalFault::OutOfMemory);
     }
     let Ok(bytes) = encode_see(alloc, entry) else {
-        return Err(Unkept::OutOfMemory);
+        return Err(JournalFault::OutOfMemory);
     };
     append_bytes(keeper, member, bytes.as_slice())
 }

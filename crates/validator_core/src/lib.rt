@@ -7,15 +7,15 @@
 //! sequence, runs what it holds in rounds, builds a checkpoint as soon as all that a cut has is done, and closes its
 //! epoch, and turns to the next one.
 //!
-//! Within, a `State` has the votes given in the epoch, and a `Course`: its versions, the certificates held, the
+//! Within, a `State` has the votes given in the epoch, and an `EpochState`: its versions, the certificates held, the
 //! sequence as it was seen, and the checkpoints. A call is decided, its record is appended, and the state takes it before
 //! the call answers; a run's effects stand when its record is appended. A start takes the records in the same way.
 #![tactic(auto)]
 
 mod calls;
-mod course;
 mod entries;
 mod epoch_calls;
+mod epoch_state;
 mod holds;
 mod keeping;
 mod looks;

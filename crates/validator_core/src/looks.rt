@@ -15,14 +15,14 @@ impl State {
     pub(crate) fn hashed(&self, key: &ObjectKey) -> Option<&HashedObject>
         ensures { option_copied result ≡ option_map object_in (version_at (versions_of self.now.member.opening self.now.member.executed) key.now) }
     {
-        self.course.store.hashed(key)
+        self.epoch_state.store.hashed(key)
     }
 
     /// The newest version of an object; none exactly if none is held, or it was deleted. Takes no memory.
     pub(crate) fn live(&self, id: &ObjectId) -> Option<&Object>
         ensures { option_copied result ≡ live self.now.member.opening self.now.member.executed id.now }
     {
-        self.course.store.live(id)
+        self.epoch_state.store.live(id)
     }
 
     /// The effects of a transaction that the member executed in the epoch; none exactly if it executed none. Takes no
@@ -30,14 +30,14 @@ impl State {
     pub(crate) fn effects(&self, tx: &Digest) -> Option<&Effects>
         ensures { option_map (λ (e : _). e.now) result ≡ option_map (λ (x : Execution). x.gave.effects) (execution_of self.now.member.executed tx.now) }
     {
-        self.course.store.executed(tx)
+        self.epoch_state.store.executed(tx)
     }
 
     /// The certificates that the member holds, in the order in which they came. Takes no memory.
     pub(crate) fn held(&self) -> &[Held]
         ensures { result.now ≡ self.now.member.held }
     {
-        self.course.held.as_slice()
+        self.epoch_state.held.as_slice()
     }
 }
 

@@ -3,15 +3,15 @@
 ghost use Rattle.std.specs.Prelude.{◌≡◌, ◌+◌, [], IfOk, IfSome, OnOk};
 ghost use Rattle.validator_core.specs.Courses.{IsSound, begun, coursed, reverted_in, turned_in};
 
-use crate::course::Course;
+use crate::epoch_state::EpochState;
 use digest_core::Digest;
-use epoch_turn::{Chain, EndCount, renew, revert_uncut};
-use exec_plan::Waiting;
+use epoch_turn::{CheckpointBuilder, EndCount, renew, revert_uncut};
+use exec_plan::DependencyIndex;
 use std::alloc::Global;
 use std::mem::replace;
 use version_assign::Admission;
 use version_store::Store;
-use vote_rules::HeldBook;
+use vote_rules::CertificateStore;
 use wire_bcs::{OutOfMemory, Seq};
 
 /// The next epoch; none exactly after the last of its type.
@@ -24,21 +24,21 @@ fn next_of(epoch: u64) -> Option<u64>
     Some(epoch + 1)
 }
 
-impl Course {
+impl EpochState {
     /// Epoch 0 of a member that has nothing and opened with nothing, under this limit of writers. Takes no memory.
-    pub(crate) fn empty(alloc: Global, writers: Option<u32>) -> Course
+    pub(crate) fn empty(alloc: Global, writers: Option<u32>) -> EpochState
         ensures sound { IsSound result }
         ensures value { coursed result ≡ begun [] writers }
         ensures limit { result.admission.writers ≡ writers }
         ensures seen { result.seen ≡ 0 }
     {
-        Course {
+        EpochState {
             epoch: 0,
             store: Store::empty(alloc),
-            held: HeldBook::new(alloc),
-            waiting: Waiting::new(alloc),
+            held: CertificateStore::new(alloc),
+            waiting: DependencyIndex::new(alloc),
             admission: Admission::empty(alloc, writers),
-            chain: Chain::new(alloc),
+            chain: CheckpointBuilder::new(alloc),
             seen: 0,
             ends: EndCount::new(),
             ended: false,
@@ -53,7 +53,7 @@ impl Course {
         ensures limit { self.new.admission.writers ≡ self.old.admission.writers }
         ensures seen { self.new.seen ≡ 0 }
     {
-        let empty = Course::empty(self.alloc, self.admission.writers());
+        let empty = EpochState::empty(self.alloc, self.admission.writers());
         drop(replace(self, empty));
     }
 
@@ -76,8 +76,8 @@ impl Course {
         renew(self.alloc, &self.store, &mut self.admission)?;
         self.store.turn()?;
         self.chain.turn();
-        drop(replace(&mut self.held, HeldBook::new(self.alloc)));
-        drop(replace(&mut self.waiting, Waiting::new(self.alloc)));
+        drop(replace(&mut self.held, CertificateStore::new(self.alloc)));
+        drop(replace(&mut self.waiting, DependencyIndex::new(self.alloc)));
         self.seen = 0;
         self.ends = EndCount::new();
         self.ended = false;

@@ -17,7 +17,7 @@ ghost use Rattle.world_spec.specs.Terms.{rules_for};
 ghost use Rattle.validator_core.specs.Limits.{terms_at};
 ghost use Rattle.validator_core.specs.Steps.{closing, counted, holding, voted};
 
-use crate::holds::Holding;
+use crate::holds::CertificateOutcome;
 use crate::runs::ran_items;
 use crate::state::State;
 use cert_rules::same_origins;
@@ -106,8 +106,8 @@ impl State {
         }
         let digest = tx_digest(self.allocator(), &cert.tx)?;
         match self.hold_on(committee, sealer, &cert, digest) {
-            Ok(Holding::Again) => Ok(false),
-            Ok(Holding::New(digest) | Holding::Fork { digest, .. }) => {
+            Ok(CertificateOutcome::Again) => Ok(false),
+            Ok(CertificateOutcome::New(digest) | CertificateOutcome::Fork { digest, .. }) => {
                 let cert = SharedCertificate::new(self.allocator(), cert)?;
                 self.take_hold(Held { digest, cert })?;
                 Ok(true)

@@ -86,7 +86,7 @@ pub(crate) fn see<D: Keeper, S: Sealer>(
 }
 
 /// Whether the member is down after this answer.
-pub(crate) fn see_fell(answer: &Result<Seen, SeeRefusal>) -> bool
+pub(crate) fn see_is_fatal(answer: &Result<Seen, SeeRefusal>) -> bool
     ensures { result ≡ has_fallen (see_ended answer.now) }
 {
     match answer {

@@ -26,8 +26,8 @@ ghost use Rattle.vote_rules.specs.Decide.{Decides};
 ghost use Rattle.vote_rules.specs.Holders.{sides};
 ghost use Rattle.protocol_spec.specs.declared.answers.Held.{Held as H};
 
-use crate::course::Course;
-use crate::entries::Arrival;
+use crate::entries::EntryOutcome;
+use crate::epoch_state::EpochState;
 use chain_types::{DecideRefusal, Object, ObjectKey, Transaction};
 use checkpoint_core::{Checkpoint, HashedCheckpoint};
 use dag_pool::Gate;
@@ -40,7 +40,7 @@ use std::alloc::Global;
 use std::marker::Model;
 use std::mem::replace;
 use std::thread::Threads;
-use vote_rules::{Fork, VoteBook};
+use vote_rules::{Fork, VoteStore};
 use wire_bcs::{OutOfMemory, Seq};
 
 /// How many records the list of a member has at most.
@@ -52,10 +52,10 @@ const RECORD_LIMIT: u64 = 4_194_303;
 pub(crate) struct State {
     records: u64,
     closed: bool,
-    votes: VoteBook,
+    votes: VoteStore,
     /// How many of the first held certificates are in the sequence; one step further after each entry.
     ordered: usize,
-    pub(crate) course: Course,
+    pub(crate) epoch_state: EpochState,
     pub(crate) alloc: Global,
 }
 
@@ -66,9 +66,9 @@ impl Model for State {
 
     ghost Value = { Limited };
 
-    ghost view = { λ s. record { writers = s.course.admission.writers; member = member_with s.records s.closed s.votes (coursed s.course) } };
+    ghost view = { λ s. record { writers = s.epoch_state.admission.writers; member = member_with s.records s.closed s.votes (coursed s.epoch_state) } };
 
-    ghost invariant = { λ s. Stands s.records s.votes s.ordered s.course };
+    ghost invariant = { λ s. Stands s.records s.votes s.ordered s.epoch_state };
 }
 
 impl State {
@@ -82,13 +82,13 @@ impl State {
         requires { AreApart opening.now }
         ensures { IfOk result (λ s. s ≡ record { writers = writers; member = fresh opening.now }) }
     {
-        let course = Course::fresh(alloc, opening, writers)?;
+        let epoch_state = EpochState::fresh(alloc, opening, writers)?;
         Ok(State {
             records: 0,
             closed: false,
-            votes: VoteBook::new(alloc),
+            votes: VoteStore::new(alloc),
             ordered: 0,
-            course,
+            epoch_state,
             alloc,
         })
     }
@@ -100,9 +100,9 @@ impl State {
         State {
             records: 0,
             closed: false,
-            votes: VoteBook::new(alloc),
+            votes: VoteStore::new(alloc),
             ordered: 0,
-            course: Course::empty(alloc, writers),
+            epoch_state: EpochState::empty(alloc, writers),
             alloc,
         }
     }
@@ -111,7 +111,7 @@ impl State {
     fn abandon(&mut self)
         ensures { self.new ≡ record { writers = self.old.writers; member = fresh [] } }
     {
-        let empty = State::empty(self.alloc, self.course.admission.writers());
+        let empty = State::empty(self.alloc, self.epoch_state.admission.writers());
         drop(replace(self, empty));
     }
 
@@ -141,35 +141,35 @@ impl State {
     pub(crate) fn epoch(&self) -> u64
         ensures { result ≡ self.now.member.epoch }
     {
-        self.course.epoch
+        self.epoch_state.epoch
     }
 
     /// The number of entries of the epoch's sequence that the member has seen. Takes no memory.
     pub(crate) fn seen(&self) -> u64
         ensures { result ≡ self.now.member.sequence.number }
     {
-        self.course.seen
+        self.epoch_state.seen
     }
 
     /// Whether the member saw the end of the epoch. Takes no memory.
     pub(crate) fn has_ended(&self) -> bool
         ensures { result ≡ self.now.member.sequence.ended }
     {
-        self.course.ended
+        self.epoch_state.ended
     }
 
     /// Whether an End of this member was counted in the epoch. Takes no memory.
     pub(crate) fn is_counted(&self, member: u32) -> bool
         ensures { result ≡ is_among self.now.member.sequence.counted member }
     {
-        quorum_core::is_among(self.course.ends.as_slice(), member)
+        quorum_core::is_among(self.epoch_state.ends.as_slice(), member)
     }
 
     /// Whether the transaction is in the sequence as the member has seen it. Takes no memory.
     pub(crate) fn is_ordered(&self, tx: &Digest) -> bool
         ensures { result ≡ is_known self.now.member.sequence.admission tx.now }
     {
-        self.course.admission.is_known(tx)
+        self.epoch_state.admission.is_known(tx)
     }
 
     /// The first held transaction that is not in the sequence as the member has seen it; none exactly if all are. Looks
@@ -178,8 +178,8 @@ impl State {
         ensures { result ≡ first_of (unordered self.now.member.sequence.admission) self.now.member.held }
     {
         first_unordered(
-            self.course.held.as_slice(),
-            &self.course.admission,
+            self.epoch_state.held.as_slice(),
+            &self.epoch_state.admission,
             self.ordered,
         )
     }
@@ -189,7 +189,7 @@ impl State {
     pub(crate) fn checkpoints(&self) -> u64
         ensures { result ≡ length (built_by self.now.member) }
     {
-        self.course.chain.len()
+        self.epoch_state.chain.len()
     }
 
     /// The number of transactions in the checkpoints that the member has built. Takes no memory.
@@ -197,7 +197,7 @@ impl State {
     pub(crate) fn checkpointed(&self) -> u64
         ensures { result ≡ transactions_in (built_by self.now.member) }
     {
-        self.course.chain.transactions()
+        self.epoch_state.chain.transactions()
     }
 
     /// The checkpoint of this number; none exactly if it was not built. Takes no memory.
@@ -205,7 +205,7 @@ impl State {
     pub(crate) fn checkpoint(&self, number: u64) -> Option<&Checkpoint>
         ensures { option_map (λ (c : _). c.now) result ≡ slice_get (built_by self.now.member) number }
     {
-        self.course.chain.checkpoint(number)
+        self.epoch_state.chain.checkpoint(number)
     }
 
     /// Whether the member closed the epoch. Takes no memory.
@@ -220,7 +220,7 @@ impl State {
     pub(crate) fn first_fork(&self) -> Option<Fork>
         ensures { result ≡ option_map sides (fork_of self.now.member) }
     {
-        self.course.held.fork()
+        self.epoch_state.held.fork()
     }
 
     /// The transactions of the fork that the member met, if it met one. Takes no memory.
@@ -244,21 +244,21 @@ impl State {
     pub(crate) fn object(&self, key: &ObjectKey) -> Option<&Object>
         ensures { option_copied result ≡ option_map object_in (version_at (versions self.now.member.opening self.now.member.executed) key.now) }
     {
-        self.course.store.get(key)
+        self.epoch_state.store.get(key)
     }
 
     /// The live objects by ascending id.
     pub(crate) fn live_list(&self) -> Result<Seq<Object>, OutOfMemory>
         ensures { IfOk result (λ objects. objects ≡ live_objects self.now.member) }
     {
-        self.course.store.live_list()
+        self.epoch_state.store.live_list()
     }
 
     /// The objects with which the present epoch opened, by ascending id.
     pub(crate) fn opening_list(&self) -> Result<Seq<Object>, OutOfMemory>
         ensures { IfOk result (λ objects. objects ≡ opening_objects self.now.member) }
     {
-        self.course.store.opening_list()
+        self.epoch_state.store.opening_list()
     }
 
     /// The origins that the vote for this transaction named, if one was given. Takes no memory.
@@ -278,21 +278,21 @@ impl State {
         ensures { Decides (vote_refusal (ballot self.now.member) tx.now digest.now) (vote_origins (ballot self.now.member) tx.now) result }
     {
         self.votes
-            .decide(self.alloc, &self.course.store, tx, digest)
+            .decide(self.alloc, &self.epoch_state.store, tx, digest)
     }
 
     /// Whether a certificate of the transaction is held. Takes no memory.
     pub(crate) fn holds(&self, tx: &Digest) -> bool
         ensures { result ≡ is_some (held_of self.now.member.held tx.now) }
     {
-        self.course.held.has(tx)
+        self.epoch_state.held.has(tx)
     }
 
     /// The first of the keys that a held certificate consumes, and its transaction. Takes no memory.
     pub(crate) fn consumed_by(&self, keys: &[ObjectKey]) -> Option<(ObjectKey, Digest)>
         ensures { result ≡ first_of (λ key. option_map (λ (e : H). (key, e.digest)) (find (consumes key) self.now.member.held)) keys.now }
     {
-        self.course.held.fork_with(keys)
+        self.epoch_state.held.fork_with(keys)
     }
 
     /// Takes the record of a vote for the transaction of this digest and these consumed keys. If memory is
@@ -327,13 +327,13 @@ impl State {
         ensures state { OnOk result (self.new.member ≡ holding self.old.member held.cert) }
         ensures limit { self.new.writers ≡ self.old.writers }
     {
-        match self.course.hold(held) {
+        match self.epoch_state.hold(held) {
             Ok(()) => {
                 self.records += 1;
                 Ok(())
             }
             Err(OutOfMemory) => {
-                self.course.forget();
+                self.epoch_state.forget();
                 self.ordered = 0;
                 Err(OutOfMemory)
             }
@@ -345,7 +345,7 @@ impl State {
     pub(crate) fn take_entry(
         &mut self,
         committee: &Committee,
-        arrival: Arrival,
+        arrival: EntryOutcome,
     ) -> Result<Seen, OutOfMemory>
         requires may { MayArrive committee.now self.old.member.sequence arrival }
         requires unended { self.old.member.sequence.ended ≡ false }
@@ -355,18 +355,18 @@ impl State {
         ensures built { IfOk result (λ seen. seen.built ≡ newly_built self.old.member self.new.member) }
         ensures limit { self.new.writers ≡ self.old.writers }
     {
-        match self.course.see(committee, arrival) {
+        match self.epoch_state.see(committee, arrival) {
             Ok(seen) => {
                 self.records += 1;
                 self.ordered = ordered_on(
-                    self.course.held.as_slice(),
-                    &self.course.admission,
+                    self.epoch_state.held.as_slice(),
+                    &self.epoch_state.admission,
                     self.ordered,
                 );
                 Ok(seen)
             }
             Err(OutOfMemory) => {
-                self.course.forget();
+                self.epoch_state.forget();
                 self.ordered = 0;
                 Err(OutOfMemory)
             }
@@ -386,10 +386,10 @@ impl State {
         ensures built { IfOk result (λ r. r.1 ≡ newly_built self.old.member (with_rounds self.old.member)) }
         ensures limit { self.new.writers ≡ self.old.writers }
     {
-        match self.course.run() {
+        match self.epoch_state.run() {
             Ok(done) => Ok(done),
             Err(OutOfMemory) => {
-                self.course.forget();
+                self.epoch_state.forget();
                 self.ordered = 0;
                 Err(OutOfMemory)
             }
@@ -411,10 +411,10 @@ impl State {
         ensures built { IfOk result (λ r. r.1 ≡ newly_built self.old.member (with_rounds self.old.member)) }
         ensures limit { self.new.writers ≡ self.old.writers }
     {
-        match self.course.run_pooled(rt, workers, gate) {
+        match self.epoch_state.run_pooled(rt, workers, gate) {
             Ok(done) => Ok(done),
             Err(OutOfMemory) => {
-                self.course.forget();
+                self.epoch_state.forget();
                 self.ordered = 0;
                 Err(OutOfMemory)
             }
@@ -426,7 +426,7 @@ impl State {
     pub(crate) fn left(&self) -> Result<Seq<Left>, OutOfMemory>
         ensures { IfOk result (λ all. all ≡ left (books self.now.member) self.now.member.executed) }
     {
-        self.course.left()
+        self.epoch_state.left()
     }
 
     /// Counts the record of a run. Takes no memory.
@@ -453,7 +453,7 @@ impl State {
     pub(crate) fn first_undone(&self) -> Option<Digest>
         ensures { result ≡ first_of (waiting_one self.now.member.held self.now.member.executed) self.now.member.sequence.admission.admitted }
     {
-        self.course.chain.waits()
+        self.epoch_state.chain.waits()
     }
 
     /// Takes the record of a turn: goes to the next epoch (epoch change of Sui Lutris), and answers the transactions that
@@ -466,16 +466,16 @@ impl State {
         ensures reverted { IfOk result (λ txs. txs ≡ reverted self.old.member) }
         ensures limit { self.new.writers ≡ self.old.writers }
     {
-        match self.course.turn() {
+        match self.epoch_state.turn() {
             Ok(reverted) => {
                 self.records += 1;
                 self.closed = false;
-                drop(replace(&mut self.votes, VoteBook::new(self.alloc)));
+                drop(replace(&mut self.votes, VoteStore::new(self.alloc)));
                 self.ordered = 0;
                 Ok(reverted)
             }
             Err(OutOfMemory) => {
-                self.course.abandon();
+                self.epoch_state.abandon();
                 self.ordered = 0;
                 Err(OutOfMemory)
             }

@@ -44,7 +44,7 @@ impl State {
     pub(crate) fn executed_digest(&self, tx: &Digest) -> Option<Digest>
         ensures { result ≡ executed_digest tx.now self.now.member }
     {
-        self.course.store.executed_digest(tx)
+        self.epoch_state.store.executed_digest(tx)
     }
 
     /// The acknowledgement of a transaction. Order of the refusals: `Halted`, `NotExecuted`. Takes no memory.

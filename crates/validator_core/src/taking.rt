@@ -8,8 +8,8 @@ ghost use Rattle.world_spec.specs.Terms.{rules_for};
 ghost use Rattle.validator_core.specs.Courses.{IsAdmitting, IsSound, IsUnbuilt, Stays, arrives, brings, coursed, ends, marks, newly_built, numbered_in, sequence_in};
 ghost use Rattle.validator_core.specs.Entries.{IsArriving, IsEnding, MayArrive, waiting_answer, what_as};
 
-use crate::course::Course;
-use crate::entries::Arrival;
+use crate::entries::EntryOutcome;
+use crate::epoch_state::EpochState;
 use digest_core::Digest;
 use epoch_turn::Counted;
 use protocol_spec::{Held, Seen, SeenWhat};
@@ -17,7 +17,7 @@ use quorum_core::Committee;
 use version_assign::Taken;
 use wire_bcs::OutOfMemory;
 
-impl Course {
+impl EpochState {
     /// A certificate comes by the sequence: it is held, if none of its transaction was.
     fn bring(&mut self, new: Held) -> Result<Taken, OutOfMemory>
         requires sound { IsSound self.old }
@@ -123,7 +123,11 @@ impl Course {
 
     /// What the entry does, but for its number and for the checkpoints that it completes.
     #[tactic(auto, unfolding(protocol_spec::specs::Member::Sequence::seen_what))]
-    fn take(&mut self, committee: &Committee, arrival: Arrival) -> Result<SeenWhat, OutOfMemory>
+    fn take(
+        &mut self,
+        committee: &Committee,
+        arrival: EntryOutcome,
+    ) -> Result<SeenWhat, OutOfMemory>
         requires sound { IsSound self.old }
         requires may { MayArrive committee.now (sequence_in self.old) arrival }
         requires unended { self.old.ended ≡ false }
@@ -135,10 +139,10 @@ impl Course {
         ensures seen { self.new.seen ≡ self.old.seen }
     {
         match arrival {
-            Arrival::Takes(new) => self.enter(new),
-            Arrival::Commits => self.pass_mark(),
-            Arrival::Counts(member) => self.count_end(committee, member),
-            Arrival::Ignores(cause) => Ok(SeenWhat::Ignored(cause)),
+            EntryOutcome::Takes(new) => self.enter(new),
+            EntryOutcome::Commits => self.pass_mark(),
+            EntryOutcome::Counts(member) => self.count_end(committee, member),
+            EntryOutcome::Ignores(cause) => Ok(SeenWhat::Ignored(cause)),
         }
     }
 
@@ -146,7 +150,7 @@ impl Course {
     pub(crate) fn see(
         &mut self,
         committee: &Committee,
-        arrival: Arrival,
+        arrival: EntryOutcome,
     ) -> Result<Seen, OutOfMemory>
         requires sound { IsSound self.old }
         requires may { MayArrive committee.now (sequence_in self.old) arrival }

@@ -12,9 +12,9 @@ ghost use Rattle.validator_core.specs.Answers.{OnTaken, bare};
 ghost use Rattle.validator_core.specs.Calls.{Turns, turn_ended};
 ghost use Rattle.validator_core.specs.Seats.{Appended, Becomes, Journaled, has_fallen};
 ghost use Rattle.validator_core.specs.Steps.{turning};
-ghost use Rattle.validator_core.specs.declared.keeping.Unkept.TheVariants as unkept;
+ghost use Rattle.validator_core.specs.declared.keeping.JournalFault.TheVariants as unkept;
 
-use crate::keeping::{Unkept, append};
+use crate::keeping::{JournalFault, append};
 use crate::state::State;
 use digest_core::Digest;
 use journal_core::Record;
@@ -66,7 +66,7 @@ impl State {
 
 /// Appends the record of a turn.
 #[tactic(auto, unfolding(journal_core::specs::Records::journal_record))]
-fn keep_turn<D: Keeper>(alloc: Global, keeper: &mut D, member: u32) -> Result<(), Unkept>
+fn keep_turn<D: Keeper>(alloc: Global, keeper: &mut D, member: u32) -> Result<(), JournalFault>
     requires known { member < D.width keeper.old }
     ensures kept { Appended (D.lists keeper.old) (D.lists keeper.new) member record_as.Turn result }
     ensures width { D.width keeper.new ≡ D.width keeper.old }
@@ -106,7 +106,7 @@ pub(crate) fn turn<D: Keeper>(
 }
 
 /// Whether the member is down after this answer.
-pub(crate) fn turn_fell(answer: &Result<Seq<Digest>, TurnRefusal>) -> bool
+pub(crate) fn turn_is_fatal(answer: &Result<Seq<Digest>, TurnRefusal>) -> bool
     ensures { result ≡ has_fallen (turn_ended answer.now) }
 {
     match answer {

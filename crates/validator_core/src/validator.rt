@@ -206,7 +206,7 @@ impl Validator {
             return Err(VoteRefusal::Down);
         }
         let answer = calls::vote(&mut self.state, keeper, sealer, self.member, bytes);
-        let fell = calls::vote_fell(&answer);
+        let fell = calls::vote_is_fatal(&answer);
         self.state.settle(fell);
         self.up = !fell;
         answer
@@ -245,7 +245,7 @@ impl Validator {
             self.member,
             bytes,
         );
-        let fell = calls::hold_fell(&answer);
+        let fell = calls::hold_is_fatal(&answer);
         self.state.settle(fell);
         self.up = !fell;
         answer
@@ -286,7 +286,7 @@ impl Validator {
             number,
             bytes,
         );
-        let fell = sees::see_fell(&answer);
+        let fell = sees::see_is_fatal(&answer);
         self.state.settle(fell);
         self.up = !fell;
         answer
@@ -321,7 +321,7 @@ impl Validator {
             return Err(RunRefusal::Down);
         }
         let answer = epoch_calls::run(rt, &mut self.state, keeper, self.member, workers, gate);
-        let fell = epoch_calls::run_fell(&answer);
+        let fell = epoch_calls::run_is_fatal(&answer);
         self.state.settle(fell);
         self.up = !fell;
         answer
@@ -347,7 +347,7 @@ impl Validator {
             return Err(CloseRefusal::Down);
         }
         let answer = epoch_calls::close(&mut self.state, keeper, self.member);
-        let fell = epoch_calls::close_fell(&answer);
+        let fell = epoch_calls::close_is_fatal(&answer);
         self.state.settle(fell);
         self.up = !fell;
         answer
@@ -411,7 +411,7 @@ impl Validator {
             return Err(TurnRefusal::Down);
         }
         let answer = turning::turn(&mut self.state, keeper, self.member);
-        let fell = turning::turn_fell(&answer);
+        let fell = turning::turn_is_fatal(&answer);
         self.state.settle(fell);
         self.up = !fell;
         answer

@@ -21,7 +21,7 @@ use wire_bcs::{Duplicate, Seq, Unread};
 /// A vote that a member gives: for the transaction of this digest, naming these origins. It is not fresh if
 /// the member had given it before.
 #[derive(Debug, Drop)]
-pub(crate) struct Decision {
+pub(crate) struct DecidedVote {
     pub digest: Digest,
     pub origins: Seq<Option<Digest>>,
     pub fresh: bool,
@@ -45,14 +45,14 @@ fn decided_as(refusal: DecideRefusal) -> VoteRefusal
 }
 
 /// The decision to give a vote once more that was given before.
-fn again(digest: Digest, origins: &Seq<Option<Digest>>) -> Result<Decision, VoteRefusal>
+fn again(digest: Digest, origins: &Seq<Option<Digest>>) -> Result<DecidedVote, VoteRefusal>
     ensures value { Repeats digest origins.now result }
     ensures never { IsErrOf result no_vote.KeepFault → ⊥ }
 {
     let Ok(origins) = origins.copy() else {
         return Err(VoteRefusal::OutOfMemory);
     };
-    Ok(Decision {
+    Ok(DecidedVote {
         digest,
         origins,
         fresh: false,
@@ -91,7 +91,7 @@ impl State {
         tx: &Transaction,
         digest: Digest,
         sealed: bool,
-    ) -> Result<Decision, VoteRefusal>
+    ) -> Result<DecidedVote, VoteRefusal>
         requires digest { digest ≡ transaction_digest tx.now }
         requires new { vote_for self.now.member digest ≡ None }
         ensures answer { VotesAs self.now.member.epoch (new_vote self.now.member tx.now (unsealed_where sealed)) result }
@@ -110,7 +110,7 @@ impl State {
             return Err(VoteRefusal::Unsealed);
         }
         match self.decide(tx, &digest) {
-            Ok(origins) => Ok(Decision {
+            Ok(origins) => Ok(DecidedVote {
                 digest,
                 origins,
                 fresh: true,
@@ -126,7 +126,7 @@ impl State {
         tx: &Transaction,
         digest: Digest,
         sealed: bool,
-    ) -> Result<Decision, VoteRefusal>
+    ) -> Result<DecidedVote, VoteRefusal>
         requires { digest ≡ transaction_digest tx.now }
         ensures answer { VotesAs self.now.member.epoch (vote_on self.now.member tx.now (unsealed_where sealed)) result }
         ensures free { IfOk result (λ d. IsFree self.now.member tx.now d) }
@@ -152,7 +152,7 @@ impl State {
         &self,
         sealer: &S,
         bytes: &'a [u8],
-    ) -> Result<(Transaction, Decision, &'a [u8]), VoteRefusal>
+    ) -> Result<(Transaction, DecidedVote, &'a [u8]), VoteRefusal>
         ensures answer { VotesAs self.now.member.epoch (vote_answer (sealed_as (S.accepts sealer.now)) self.now.member bytes.now) (decision_in result) }
         ensures due { VoteDue (due (sealed_as (S.accepts sealer.now)) self.now.member (votes bytes.now)) result }
         ensures free { IfOk result (λ v. IsFree self.now.member v.0 v.1) }

@@ -13,7 +13,7 @@ use Rattle.protocol_spec.specs.Chain.Keys.{is_shared}
 use Rattle.protocol_spec.specs.Member.Admission.{Admission, Admitted, is_shared_object, opening_object}
 use Rattle.version_assign.specs.declared.changes.Change.{Change}
 use Rattle.version_assign.specs.Books.{AreLines, AreRows, IsOpening, object_in, stands}
-use Rattle.version_assign.specs.declared.book.Row.{Row}
+use Rattle.version_assign.specs.declared.book.PendingCertificate.{PendingCertificate}
 use Rattle.version_assign.specs.Lines.{LineMap}
 use Rattle.version_assign.specs.Changes.{AreShared, Changes, ChangesOn, HasId, IsOwn, IsSharedUnder, Puts, Shelved, changed_by}
 use Rattle.version_assign.specs.Sharing.{if_shared}
@@ -121,7 +121,7 @@ lines_alike limit opening other a lines none are = record {
   writers = are.writers;
 }
 
-pub no_rows : (opening : List Object) (lines : LineMap) (rows : List (Option Row)) → rows ≡ [] → AreRows opening lines rows
+pub no_rows : (opening : List Object) (lines : LineMap) (rows : List (Option PendingCertificate)) → rows ≡ [] → AreRows opening lines rows
 no_rows opening lines rows none = subst (AreRows opening lines) (sym none) (record { at = λ n r at. none_at n r at })
 
 pub reopens : (old : List Object) (mid new : Shelved) (changes : List Change) → map object_in mid ≡ old → IsOpening mid → IsOpening new → Changes mid new changes

@@ -14,8 +14,8 @@ use Rattle.protocol_spec.specs.declared.answers.Assigned.{Assigned}
 use Rattle.protocol_spec.proofs.Equality.{id_same}
 use Rattle.protocol_spec.specs.Chain.Words.{Each}
 use Rattle.protocol_spec.specs.Member.Admission.{writes}
-use Rattle.version_assign.specs.declared.book.Admit.{Admit}
-use Rattle.version_assign.specs.declared.book.Book.{Book}
+use Rattle.version_assign.specs.declared.book.AdmittedCertificate.{AdmittedCertificate}
+use Rattle.version_assign.specs.declared.book.AdmissionTables.{AdmissionTables}
 use Rattle.version_assign.specs.declared.lines.Line.{Line}
 use Rattle.version_assign.specs.Books.{HasRoom, IsKept, IsLet, IsRow, admission_of, admitted_as, opening_of, shown}
 use Rattle.version_assign.specs.Calls.{Admitting, with_cut}
@@ -47,7 +47,7 @@ all_stand : (xs : List Assigned) (es : LineMap) (id : ObjectId) → (line_at (cl
 all_stand [] es id = refl
 all_stand (x ∷ xs) es id = all_stand xs (clear_one es x) id ∙ one_stands es x id
 
-pub each_stands : (entries : List (Digest × Admit)) (es : LineMap) (id : ObjectId) → (line_at (clear_each es entries) id).standing ≡ (line_at es id).standing
+pub each_stands : (entries : List (Digest × AdmittedCertificate)) (es : LineMap) (id : ObjectId) → (line_at (clear_each es entries) id).standing ≡ (line_at es id).standing
 each_stands [] es id = refl
 each_stands (e ∷ entries) es id = each_stands entries (clear_all es e.1.assigned) id ∙ all_stand e.1.assigned es id
 
@@ -63,20 +63,20 @@ pub all_keep : (xs : List Assigned) (es : LineMap) → KeepsLines es (clear_all 
 all_keep [] es = keeps_self es
 all_keep (x ∷ xs) es = keeps_then es (clear_one es x) (clear_all (clear_one es x) xs) (clear_step es x) (all_keep xs (clear_one es x))
 
-pub each_keeps : (entries : List (Digest × Admit)) (es : LineMap) → KeepsLines es (clear_each es entries)
+pub each_keeps : (entries : List (Digest × AdmittedCertificate)) (es : LineMap) → KeepsLines es (clear_each es entries)
 each_keeps [] es = keeps_self es
 each_keeps (e ∷ entries) es = keeps_then es (clear_all es e.1.assigned) (clear_each (clear_all es e.1.assigned) entries) (all_keep e.1.assigned es) (each_keeps entries (clear_all es e.1.assigned))
 
 -- ---- a loop over what was admitted
 
-pub cleared_next : (entries : List (Digest × Admit)) (i : ℕ) (lines new all : LineMap) → i < length entries → new ≡ clear_found lines (slice_get entries i) → clear_each lines (drop i entries) ≡ all → clear_each new (drop (i + 1) entries) ≡ all
+pub cleared_next : (entries : List (Digest × AdmittedCertificate)) (i : ℕ) (lines new all : LineMap) → i < length entries → new ≡ clear_found lines (slice_get entries i) → clear_each lines (drop i entries) ≡ all → clear_each new (drop (i + 1) entries) ≡ all
 cleared_next entries i lines new all within is same = go (slice_get entries i) refl is
   where
-    go : (o : Option (Digest × Admit)) → slice_get entries i ≡ o → new ≡ clear_found lines o → clear_each new (drop (i + 1) entries) ≡ all
+    go : (o : Option (Digest × AdmittedCertificate)) → slice_get entries i ≡ o → new ≡ clear_found lines o → clear_each new (drop (i + 1) entries) ≡ all
     go None e f = absurd (some_at entries i within e)
     go (Some x) e f = rw add-one (ap (λ (ls : LineMap). clear_each ls (drop (suc i) entries)) f ∙ sym (ap (clear_each lines) (next_at entries i x e)) ∙ same)
 
-pub found_keeps : (old lines new : LineMap) (o : Option (Digest × Admit)) → KeepsLines old lines → new ≡ clear_found lines o → KeepsLines old new
+pub found_keeps : (old lines new : LineMap) (o : Option (Digest × AdmittedCertificate)) → KeepsLines old lines → new ≡ clear_found lines o → KeepsLines old new
 found_keeps old lines new None kept is = subst (KeepsLines old) (sym is) kept
 found_keeps old lines new (Some e) kept is = subst (KeepsLines old) (sym is) (keeps_then old lines (clear_all lines e.1.assigned) kept (all_keep e.1.assigned lines))
 
@@ -110,7 +110,7 @@ away_same (x ∷ xs) es id away = go (id_eq id x.id) refl away (away_same xs (cl
     go true is has more = absurd (cc)
     go false is has more = more has ∙ ap (λ (l : Line). l.writers) (one_line es x id ∙ ap (λ b. cond b (cleared (line_at es id)) (line_at es id)) is)
 
-pub each_none : (lines : LineMap) (entries : List (Digest × Admit)) → Each (IsLet lines) entries → (es : LineMap) (id : ObjectId)
+pub each_none : (lines : LineMap) (entries : List (Digest × AdmittedCertificate)) → Each (IsLet lines) entries → (es : LineMap) (id : ObjectId)
     → ((line_at es id).writers ≡ count_by (writes id) (map admitted_as entries)) ⊎ ((line_at es id).writers ≡ 0) → (line_at (clear_each es entries) id).writers ≡ 0
 each_none lines [] all es id (inl counted) = counted
 each_none lines [] all es id (inr none) = none
@@ -146,7 +146,7 @@ each_drop P (suc n) (x ∷ xs) all = each_drop P n xs all.1
 
 -- ---- the step
 
-module _ (old new : Book) (kept : IsKept old) (m : Marks old new) where
+module _ (old new : AdmissionTables) (kept : IsKept old) (m : Marks old new) where
   abbrev cut_parts : Parts
   cut_parts = record (parts_of old) { lines = clear_each old.lines.entries (drop old.marked old.admitted.entries); marked = length old.admitted.entries }
 

@@ -18,9 +18,9 @@ use Rattle.protocol_spec.specs.Chain.Words.{Each}
 use Rattle.protocol_spec.specs.Chain.Keys.{objects_of}
 use Rattle.protocol_spec.specs.Chain.Shape.{shape_fault}
 use Rattle.protocol_spec.specs.Member.Admission.{Admission, digest_of_admitted, entered, is_admitted, is_known, passed_mark, take_all}
-use Rattle.version_assign.specs.declared.book.Admit.{Admit}
-use Rattle.version_assign.specs.declared.book.Book.{Book}
-use Rattle.version_assign.specs.declared.book.Row.{Row}
+use Rattle.version_assign.specs.declared.book.AdmittedCertificate.{AdmittedCertificate}
+use Rattle.version_assign.specs.declared.book.AdmissionTables.{AdmissionTables}
+use Rattle.version_assign.specs.declared.book.PendingCertificate.{PendingCertificate}
 use Rattle.version_assign.specs.Books.{Aligned, HasRoom, IsKept, IsNew, IsRow, admission_of, admitted_as, opening_of, pending_in, row_at, shown}
 use Rattle.version_assign.specs.Calls.{Admitting, admitted_since, settled, with_cut, with_entry, with_mark}
 use Rattle.version_assign.specs.Lines.{begun_behind}
@@ -34,7 +34,7 @@ use Rattle.version_assign.proofs.Taking.{lets_more}
 
 -- ---- room is made
 
-module _ (old new : Book) (kept : IsKept old) (m : MakesRoom old new) where
+module _ (old new : AdmissionTables) (kept : IsKept old) (m : MakesRoom old new) where
   abbrev roomy : Parts
   roomy = record (parts_of old) { lines = new.lines.entries }
 
@@ -91,13 +91,13 @@ module _ (old new : Book) (kept : IsKept old) (m : MakesRoom old new) where
 
 -- ---- a row is added
 
-row_push : (rows : List (Option Row)) (r : Row) (q : ℕ) (x : Row) → row_at (rows ++ Some r ∷ []) q ≡ Some x → (row_at rows q ≡ Some x) ⊎ (r ≡ x)
+row_push : (rows : List (Option PendingCertificate)) (r : PendingCertificate) (q : ℕ) (x : PendingCertificate) → row_at (rows ++ Some r ∷ []) q ≡ Some x → (row_at rows q ≡ Some x) ⊎ (r ≡ x)
 row_push [] r zero x at = inr (cc)
 row_push [] r (suc q) x at = absurd (cc)
 row_push (y ∷ rows) r zero x at = inl at
 row_push (y ∷ rows) r (suc q) x at = row_push rows r q x at
 
-aligned_push : (rows : List (Option Row)) (keys : List Digest) (r : Row) → Aligned rows keys → Aligned (rows ++ Some r ∷ []) (keys ++ r.held.digest ∷ [])
+aligned_push : (rows : List (Option PendingCertificate)) (keys : List Digest) (r : PendingCertificate) → Aligned rows keys → Aligned (rows ++ Some r ∷ []) (keys ++ r.held.digest ∷ [])
 aligned_push [] [] r all = (refl, tt)
 aligned_push [] (k ∷ ks) r all = absurd all
 aligned_push (y ∷ rows) [] r all = absurd all
@@ -113,7 +113,7 @@ regrouped true y z e = refl
 regrouped false true z e = refl
 regrouped false false z e = refl
 
-module _ (old new : Book) (r : Row) (kept : IsKept old) (m : AddsRow old new r) (room : HasRowRoom old r.assigned.items) (shaped : shape_fault r.held.cert.tx ≡ None)
+module _ (old new : AdmissionTables) (r : PendingCertificate) (kept : IsKept old) (m : AddsRow old new r) (room : HasRowRoom old r.assigned.items) (shaped : shape_fault r.held.cert.tx ≡ None)
     (origins : length r.held.cert.origins ≡ length (objects_of r.held.cert.tx)) (begins : r.assigned.items ≡ begun_behind (opening_of old) r.held.cert.tx.inputs r.held.cert.origins)
     (fresh : is_known (admission_of old) r.held.digest ≡ false) where
   abbrev a : Admission
@@ -166,7 +166,7 @@ module _ (old new : Book) (r : Row) (kept : IsKept old) (m : AddsRow old new r) 
     within = kept.within;
   }
     where
-      by : (q : ℕ) (x : Row) → (row_at old.rows.items q ≡ Some x) ⊎ (r ≡ x) → (row_at old.rows.items q ≡ Some x → IsRow (opening_of old) old.lines.entries x) → IsRow (opening_of old) old.lines.entries x
+      by : (q : ℕ) (x : PendingCertificate) → (row_at old.rows.items q ≡ Some x) ⊎ (r ≡ x) → (row_at old.rows.items q ≡ Some x → IsRow (opening_of old) old.lines.entries x) → IsRow (opening_of old) old.lines.entries x
       by q x (inl w) more = more w
       by q x (inr is) more = subst (IsRow (opening_of old) old.lines.entries) is row_is
 
@@ -200,7 +200,7 @@ unfolding passed_mark
 mark_is s = refl
 
 -- what is listed
-pub listed_since : (old new : Admission) (entries : List (Digest × Admit)) (n : ℕ) → new.admitted ≡ map admitted_as entries → n ≡ length old.admitted → map digest_in (drop n entries) ≡ admitted_since old new
+pub listed_since : (old new : Admission) (entries : List (Digest × AdmittedCertificate)) (n : ℕ) → new.admitted ≡ map admitted_as entries → n ≡ length old.admitted → map digest_in (drop n entries) ≡ admitted_since old new
 listed_since old new entries n is len =
     sym (
     ap (λ xs. map digest_of_admitted (drop (length old.admitted) xs)) is
@@ -209,7 +209,7 @@ listed_since old new entries n is len =
     ∙ map-map digest_of_admitted admitted_as (drop n entries))
 
 -- no more is listed than there is room for
-pub few_entries : (old new : Book) → IsKept old → shown new ≡ settled (shown old) → length new.admitted.entries ≤ length old.admitted.entries + old.waiting
+pub few_entries : (old new : AdmissionTables) → IsKept old → shown new ≡ settled (shown old) → length new.admitted.entries ≤ length old.admitted.entries + old.waiting
 few_entries old new kept is =
     let e : length (map admitted_as new.admitted.entries) ≡ length (take_all old.writers (opening_of old) (admission_of old)).admitted = ap (λ (s : Admitting). length s.admission.admitted) is in
     let f : length (take_all old.writers (opening_of old) (admission_of old)).admitted ≤ length (map admitted_as old.admitted.entries) + length (pending_in old.rows.items) =
@@ -219,7 +219,7 @@ few_entries old new kept is =
     let w : old.waiting ≡ length (pending_in old.rows.items) = kept.waiting in
     omega arith
 
-pub few_gone : (old new : Book) → IsKept old → shown new ≡ settled (shown old) → length new.dropped.items ≤ length old.dropped.items + old.waiting
+pub few_gone : (old new : AdmissionTables) → IsKept old → shown new ≡ settled (shown old) → length new.dropped.items ≤ length old.dropped.items + old.waiting
 few_gone old new kept is =
     let e : length new.dropped.items ≡ length (take_all old.writers (opening_of old) (admission_of old)).dropped = ap (λ (s : Admitting). length s.admission.dropped) is in
     let f : length (take_all old.writers (opening_of old) (admission_of old)).dropped ≤ length old.dropped.items + length (pending_in old.rows.items) =
@@ -227,5 +227,5 @@ few_gone old new kept is =
     let w : old.waiting ≡ length (pending_in old.rows.items) = kept.waiting in
     omega arith
 
-pub uncut_is : (entries : List (Digest × Admit)) (n : ℕ) → map digest_in (drop n entries) ≡ map digest_of_admitted (drop n (map admitted_as entries))
+pub uncut_is : (entries : List (Digest × AdmittedCertificate)) (n : ℕ) → map digest_in (drop n entries) ≡ map digest_of_admitted (drop n (map admitted_as entries))
 uncut_is entries n = sym (ap (map digest_of_admitted) (drop-map admitted_as n entries) ∙ map-map digest_of_admitted admitted_as (drop n entries))

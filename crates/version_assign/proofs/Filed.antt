@@ -15,8 +15,8 @@ use Rattle.protocol_spec.proofs.Truth.{or_right, or_left, or_true}
 use Rattle.protocol_spec.specs.Chain.Words.{Has, first_of, first_some, where_true}
 use Rattle.protocol_spec.specs.Chain.Tests.{has_id}
 use Rattle.protocol_spec.specs.Member.Admission.{Admission, full_id, has_room, is_admitted, is_free, is_origin_admitted, missing_origin, mutable_ids}
-use Rattle.version_assign.specs.declared.book.Row.{Row}
-use Rattle.version_assign.specs.declared.waits.Waits.{Waits}
+use Rattle.version_assign.specs.declared.book.PendingCertificate.{PendingCertificate}
+use Rattle.version_assign.specs.declared.waits.PendingIndex.{PendingIndex}
 use Rattle.version_assign.specs.Books.{held_in, pending_in, row_at}
 use Rattle.version_assign.specs.Calls.{Admitting}
 use Rattle.version_assign.specs.Steps.{is_free_one}
@@ -36,22 +36,22 @@ written_is ids id = or_none (has_id ids id)
 
 -- ---- one step after the other
 
-module _ (rows : List (Option Row)) (admits : Digest → Bool) (room : ObjectId → Bool) where
-  turn_grows : (due : ObjectId → Bool) (old new : Waits) → ((p : ℕ) → is_awake old p ≡ true → is_awake new p ≡ true) → (id : ObjectId) (q : ℕ) → Turn rows old room due id q → Turn rows new room due id q
+module _ (rows : List (Option PendingCertificate)) (admits : Digest → Bool) (room : ObjectId → Bool) where
+  turn_grows : (due : ObjectId → Bool) (old new : PendingIndex) → ((p : ℕ) → is_awake old p ≡ true → is_awake new p ≡ true) → (id : ObjectId) (q : ℕ) → Turn rows old room due id q → Turn rows new room due id q
   turn_grows due old new more id q (is_full full) = is_full full
   turn_grows due old new more id q (is_open open_) = is_open open_
   turn_grows due old new more id q (has_turn p awake before writes) = has_turn p (more p awake) before writes
 
-  pub filed_grows : (due : ObjectId → Bool) (old new : Waits) → Grows old new → IsFiled rows old admits room due → IsFiled rows new admits room due
+  pub filed_grows : (due : ObjectId → Bool) (old new : PendingIndex) → Grows old new → IsFiled rows old admits room due → IsFiled rows new admits room due
   filed_grows due old new g filed = record { at = λ whole q r here. go q r (filed.at (g.whole whole) q r here) }
     where
-      go : (q : ℕ) (r : Row) → Reason rows old admits room due q r.held.cert → Reason rows new admits room due q r.held.cert
+      go : (q : ℕ) (r : PendingCertificate) → Reason rows old admits room due q r.held.cert → Reason rows new admits room due q r.held.cert
       go q r (may_be_free awake) = may_be_free (g.awake q awake)
       go q r (stands_behind tx has off under) = stands_behind tx has off (g.behind tx q under)
       go q r (is_queued id named under turn) = is_queued id named (g.queues id.0 q under) (turn_grows due old new g.awake id q turn)
 
   -- the next in a queue may be free
-  pub filed_turns : (due : ObjectId → Bool) (id : ObjectId) (old new : Waits) → TurnsOn rows old new id → IsFiled rows old admits room (λ x. id_eq x id || due x) → IsFiled rows new admits room due
+  pub filed_turns : (due : ObjectId → Bool) (id : ObjectId) (old new : PendingIndex) → TurnsOn rows old new id → IsFiled rows old admits room (λ x. id_eq x id || due x) → IsFiled rows new admits room due
   filed_turns due id old new t filed = record { at = λ whole q r here. go whole q r here (filed.at (t.whole whole) q r here) }
     where
       taken : (x : ObjectId) (q : ℕ) → HasNext rows new id q → id_eq x id ≡ true → Turn rows new room due x q
@@ -66,18 +66,18 @@ module _ (rows : List (Option Row)) (admits : Digest → Bool) (room : ObjectId 
           by (inl same) = taken x q (t.next whole q (subst (λ (y : ObjectId). is_under new.queues.entries y.0 q ≡ true) (id_same x id same) under)) same
           by (inr more) = is_open more
 
-      queued : new.whole ≡ true → (x : ObjectId) (q : ℕ) (r : Row) → row_at rows q ≡ Some r → has_id (mutable_ids r.held.cert) x ≡ true → Turn rows old room (λ y. id_eq y id || due y) x q
+      queued : new.whole ≡ true → (x : ObjectId) (q : ℕ) (r : PendingCertificate) → row_at rows q ≡ Some r → has_id (mutable_ids r.held.cert) x ≡ true → Turn rows old room (λ y. id_eq y id || due y) x q
           → (is_under new.queues.entries x.0 q ≡ true) ⊎ ((id.0 ≡ x.0) × (writes_at rows q id ≡ true → is_awake new q ≡ true)) → Reason rows new admits room due q r.held.cert
       queued whole x q r here named turn (inl under) = is_queued x named under (turn_of whole x q under turn)
       queued whole x q r here named turn (inr gone) = may_be_free (gone.1 (ap (λ o. writes_row o id) here ∙ ap (has_id (mutable_ids r.held.cert)) (ap (λ (d : Digest). let y : ObjectId = record { 0 = d } in y) gone.0) ∙ named))
 
-      go : new.whole ≡ true → (q : ℕ) (r : Row) → row_at rows q ≡ Some r → Reason rows old admits room (λ y. id_eq y id || due y) q r.held.cert → Reason rows new admits room due q r.held.cert
+      go : new.whole ≡ true → (q : ℕ) (r : PendingCertificate) → row_at rows q ≡ Some r → Reason rows old admits room (λ y. id_eq y id || due y) q r.held.cert → Reason rows new admits room due q r.held.cert
       go whole q r here (may_be_free awake) = may_be_free (t.awake q awake)
       go whole q r here (stands_behind tx has off under) = stands_behind tx has off (t.behind tx q under)
       go whole q r here (is_queued x named under turn) = queued whole x q r here named turn (t.queues whole x.0 q under)
 
   -- what is due may be another word
-  pub filed_due : (due other : ObjectId → Bool) (w : Waits) → ((x : ObjectId) → due x ≡ true → (other x ≡ true) ⊎ (room x ≡ false)) → IsFiled rows w admits room due → IsFiled rows w admits room other
+  pub filed_due : (due other : ObjectId → Bool) (w : PendingIndex) → ((x : ObjectId) → due x ≡ true → (other x ≡ true) ⊎ (room x ≡ false)) → IsFiled rows w admits room due → IsFiled rows w admits room other
   filed_due due other w more filed = record { at = λ whole q r here. go q r (filed.at whole q r here) }
     where
       turn_of : (x : ObjectId) (q : ℕ) → Turn rows w room due x q → Turn rows w room other x q
@@ -89,7 +89,7 @@ module _ (rows : List (Option Row)) (admits : Digest → Bool) (room : ObjectId 
           by (inl o) = is_open o
           by (inr full) = is_full full
 
-      go : (q : ℕ) (r : Row) → Reason rows w admits room due q r.held.cert → Reason rows w admits room other q r.held.cert
+      go : (q : ℕ) (r : PendingCertificate) → Reason rows w admits room due q r.held.cert → Reason rows w admits room other q r.held.cert
       go q r (may_be_free awake) = may_be_free awake
       go q r (stands_behind tx has off under) = stands_behind tx has off under
       go q r (is_queued x named under turn) = is_queued x named under (turn_of x q turn)
@@ -105,7 +105,7 @@ due_with id rest due x e = regrouped (id_eq x id) (has_id rest x) (due x) e
     regrouped false b c e = e
 
 -- the object has room, and its queue was opened
-pub opened_room : (rows : List (Option Row)) (room : ObjectId → Bool) (old new : Waits) (id : ObjectId) (rest : List ObjectId) → TurnsOn rows old new id → Opens rows room old new (id ∷ rest) rest
+pub opened_room : (rows : List (Option PendingCertificate)) (room : ObjectId → Bool) (old new : PendingIndex) (id : ObjectId) (rest : List ObjectId) → TurnsOn rows old new id → Opens rows room old new (id ∷ rest) rest
 opened_room rows room old new id rest t = record {
   at = λ admits due filed.
       filed_turns rows admits room (or_one_of rest due) id old new t
@@ -113,7 +113,7 @@ opened_room rows room old new id rest t = record {
 }
 
 -- it has its writers
-pub opened_full : (rows : List (Option Row)) (room : ObjectId → Bool) (w : Waits) (id : ObjectId) (rest : List ObjectId) → room id ≡ false → Opens rows room w w (id ∷ rest) rest
+pub opened_full : (rows : List (Option PendingCertificate)) (room : ObjectId → Bool) (w : PendingIndex) (id : ObjectId) (rest : List ObjectId) → room id ≡ false → Opens rows room w w (id ∷ rest) rest
 opened_full rows room w id rest full = record {
   at = λ admits due filed.
       filed_due rows admits room (or_one_of (id ∷ rest) due) (or_one_of rest due) w (λ x e. go due x (id_eq x id) refl (due_with id rest due x e)) filed;
@@ -123,7 +123,7 @@ opened_full rows room w id rest full = record {
     go due x true same e = inr (ap room (id_same x id same) ∙ full)
     go due x false same e = inl e
 
-pub opens_then : (rows : List (Option Row)) (room : ObjectId → Bool) (a b c : Waits) (all some rest : List ObjectId) → Opens rows room a b all some → Opens rows room b c some rest → Opens rows room a c all rest
+pub opens_then : (rows : List (Option PendingCertificate)) (room : ObjectId → Bool) (a b c : PendingIndex) (all some rest : List ObjectId) → Opens rows room a b all some → Opens rows room b c some rest → Opens rows room a c all rest
 opens_then rows room a b c all some rest x y = record { at = λ admits due filed. y.at admits due (x.at admits due filed) }
 
 -- ---- one that is not free
@@ -175,8 +175,8 @@ room_holds room ids id has full = go (list_all room ids) refl
 
 -- ---- the first free
 
-module _ (s : Admitting) (rows : List (Option Row)) (w : Waits) (filed : IsFiled rows w (is_admitted s.admission.admitted) (has_room s.writers s.admission) none_open) (whole : w.whole ≡ true) where
-  not_free : (q : ℕ) (r : Row) → row_at rows q ≡ Some r → ((p : ℕ) → is_awake w p ≡ true → q < p) → is_free s.writers s.admission r.held ≡ false
+module _ (s : Admitting) (rows : List (Option PendingCertificate)) (w : PendingIndex) (filed : IsFiled rows w (is_admitted s.admission.admitted) (has_room s.writers s.admission) none_open) (whole : w.whole ≡ true) where
+  not_free : (q : ℕ) (r : PendingCertificate) → row_at rows q ≡ Some r → ((p : ℕ) → is_awake w p ≡ true → q < p) → is_free s.writers s.admission r.held ≡ false
   not_free q r here later = go (filed.at whole q r here)
     where
       below : (n : ℕ) → n < n → ⊥
@@ -205,7 +205,7 @@ module _ (s : Admitting) (rows : List (Option Row)) (w : Waits) (filed : IsFiled
   none_at : (q : ℕ) → ((p : ℕ) → is_awake w p ≡ true → q < p) → is_free_one s (held_in (row_at rows q)) ≡ false
   none_at q later = go (row_at rows q) refl
     where
-      go : (o : Option Row) → row_at rows q ≡ o → is_free_one s (held_in o) ≡ false
+      go : (o : Option PendingCertificate) → row_at rows q ≡ o → is_free_one s (held_in o) ≡ false
       go None here = refl
       go (Some r) here = not_free q r here later
 
@@ -220,7 +220,7 @@ module _ (s : Admitting) (rows : List (Option Row)) (w : Waits) (filed : IsFiled
   pub first_is : (p : ℕ) → ((q : ℕ) → is_awake w q ≡ true → p ≤ q) → is_free_one s (held_in (row_at rows p)) ≡ true → held_in (row_at rows p) ≡ find (is_free s.writers s.admission) (pending_in rows)
   first_is p least free = place_found s rows p free ∙ passed p least (there rows p free)
     where
-      there : (xs : List (Option Row)) (i : ℕ) → is_free_one s (held_in (row_at xs i)) ≡ true → i ≤ length xs
+      there : (xs : List (Option PendingCertificate)) (i : ℕ) → is_free_one s (held_in (row_at xs i)) ≡ true → i ≤ length xs
       there [] zero e = absurd (cc)
       there [] (suc i) e = absurd (cc)
       there (x ∷ xs) zero e = omega arith
@@ -237,7 +237,7 @@ module _ (s : Admitting) (rows : List (Option Row)) (w : Waits) (filed : IsFiled
 -- ---- answers of the calls
 
 -- the first in a queue that waits and writes the object may be free
-pub turned_on : (rows : List (Option Row)) (old at mid new : Waits) (id : ObjectId) (place : ℕ) → Passes rows old at id → mid.whole ≡ at.whole → mid.awake ≡ at.awake → mid.behind ≡ at.behind
+pub turned_on : (rows : List (Option PendingCertificate)) (old at mid new : PendingIndex) (id : ObjectId) (place : ℕ) → Passes rows old at id → mid.whole ≡ at.whole → mid.awake ≡ at.awake → mid.behind ≡ at.behind
     → PopsPlace at.queues.entries mid.queues.entries id.0 place → writes_at rows place id ≡ true → Grows mid new → new.queues ≡ mid.queues → (new.whole ≡ true → is_awake new place ≡ true) → TurnsOn rows old new id
 turned_on rows old at mid new id place passes whole awake behind pops writes grows queues woken = record {
   whole = λ w. passes.whole (sym whole ∙ grows.whole w);
@@ -256,7 +256,7 @@ turned_on rows old at mid new id place passes whole awake behind pops writes gro
         after (inl u) = inl (grows.queues n q u)
         after (inr p) = inr (p.0, λ e. ap (is_awake new) p.1 ∙ woken w)
 
-pub opens_first : (rows : List (Option Row)) (room : ObjectId → Bool) (a b c : Waits) (all rest : List ObjectId) (other : ObjectId) → 1 ≤ length rest → Opens rows room a b all rest → ((more : List ObjectId) → Opens rows room b c (get_or rest 0 other ∷ more) more)
+pub opens_first : (rows : List (Option PendingCertificate)) (room : ObjectId → Bool) (a b c : PendingIndex) (all rest : List ObjectId) (other : ObjectId) → 1 ≤ length rest → Opens rows room a b all rest → ((more : List ObjectId) → Opens rows room b c (get_or rest 0 other ∷ more) more)
     → Opens rows room a c all (take (length rest - 1) (drop 1 rest))
 opens_first rows room a b c all [] other some done one = absurd (omega (arith, some))
 opens_first rows room a b c all (y ∷ ys) other some done one =

@@ -7,7 +7,7 @@ use Rattle.chain_types.specs.declared.objects.ObjectId.{ObjectId}
 use Rattle.protocol_spec.specs.declared.answers.Held.{Held}
 use Rattle.protocol_spec.specs.Chain.Words.{first_of, first_some, where_true}
 use Rattle.protocol_spec.specs.Member.Admission.{Admission, full_id, has_room, is_admitted, is_free, is_origin_admitted, missing_origin, mutable_ids, without_room}
-use Rattle.version_assign.specs.declared.book.Row.{Row}
+use Rattle.version_assign.specs.declared.book.PendingCertificate.{PendingCertificate}
 use Rattle.version_assign.specs.Books.{held_in, pending_in, row_at}
 use Rattle.version_assign.specs.Calls.{Admitting}
 use Rattle.version_assign.specs.Steps.{is_free_one}
@@ -78,20 +78,20 @@ let_on writers a h m f is missing found =
 -- ---- places
 
 -- a free certificate at a place is the first after the places before it
-pub place_found : (s : Admitting) (rows : List (Option Row)) (i : ℕ) → is_free_one s (held_in (row_at rows i)) ≡ true → held_in (row_at rows i) ≡ find (is_free s.writers s.admission) (pending_in (drop i rows))
+pub place_found : (s : Admitting) (rows : List (Option PendingCertificate)) (i : ℕ) → is_free_one s (held_in (row_at rows i)) ≡ true → held_in (row_at rows i) ≡ find (is_free s.writers s.admission) (pending_in (drop i rows))
 place_found s [] zero free = absurd (cc)
 place_found s [] (suc i) free = absurd (cc)
 place_found s (None ∷ rows) zero free = absurd (cc)
 place_found s (Some r ∷ rows) zero free = sym (ap (λ b. cond b (Some r.held) (find (is_free s.writers s.admission) (pending_in rows))) free)
 place_found s (r ∷ rows) (suc i) free = place_found s rows i free
 
-next_passed : (s : Admitting) (rows : List (Option Row)) (i : ℕ) → i < length rows → is_free_one s (held_in (row_at rows i)) ≡ false
+next_passed : (s : Admitting) (rows : List (Option PendingCertificate)) (i : ℕ) → i < length rows → is_free_one s (held_in (row_at rows i)) ≡ false
     → find (is_free s.writers s.admission) (pending_in (drop (suc i) rows)) ≡ find (is_free s.writers s.admission) (pending_in (drop i rows))
 next_passed s [] i h free = absurd (omega (arith, h))
 next_passed s (None ∷ rows) zero h free = refl
 next_passed s (Some r ∷ rows) zero h free = sym (ap (λ b. cond b (Some r.held) (find (is_free s.writers s.admission) (pending_in rows))) free)
 next_passed s (r ∷ rows) (suc i) h free = next_passed s rows i (omega arith) free
 
-pub place_passed : (s : Admitting) (rows : List (Option Row)) (i : ℕ) → i < length rows → is_free_one s (held_in (row_at rows i)) ≡ false
+pub place_passed : (s : Admitting) (rows : List (Option PendingCertificate)) (i : ℕ) → i < length rows → is_free_one s (held_in (row_at rows i)) ≡ false
     → find (is_free s.writers s.admission) (pending_in (drop (i + 1) rows)) ≡ find (is_free s.writers s.admission) (pending_in (drop i rows))
 place_passed s rows i h free = rw add-one (next_passed s rows i h free)

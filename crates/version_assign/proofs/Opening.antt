@@ -13,8 +13,8 @@ use Rattle.protocol_spec.proofs.Truth.{or_false}
 use Rattle.protocol_spec.specs.Chain.Words.{Each, repeats}
 use Rattle.protocol_spec.specs.Member.Admission.{is_shared_object, nothing_admitted, opening_object}
 use Rattle.tables.proofs.Lookups.{goes_last}
-use Rattle.version_assign.specs.declared.book.Book.{Book}
-use Rattle.version_assign.specs.declared.book.Row.{Row}
+use Rattle.version_assign.specs.declared.book.AdmissionTables.{AdmissionTables}
+use Rattle.version_assign.specs.declared.book.PendingCertificate.{PendingCertificate}
 use Rattle.version_assign.specs.Books.{HasRoom, IsKept, IsOpening, object_in, row_at, shown}
 use Rattle.version_assign.specs.Calls.{Admitting, id_of, is_shared_one, opened}
 use Rattle.version_assign.specs.Steps.{with_all_shared}
@@ -119,7 +119,7 @@ opening_kept entries objects is once = subst IsOpening (sym (is ∙ entries_are 
 abbrev pub no_entries : List (ObjectId × Object) → Option ℕ → Parts
 no_entries opening writers = record { opening = opening; writers = writers; lines = []; rows = []; admitted = []; dropped = []; known = []; marked = 0; waiting = 0 }
 
-pub none_at : {A : Type 0} → (n : ℕ) (r : Row) → row_at [] n ≡ Some r → A
+pub none_at : {A : Type 0} → (n : ℕ) (r : PendingCertificate) → row_at [] n ≡ Some r → A
 none_at zero r at = absurd (cc)
 none_at (suc n) r at = absurd (cc)
 
@@ -138,7 +138,7 @@ nothing_kept entries writers opening small = record {
   within = omega arith;
 }
 
-pub starts : (b : Book) (objects : List Object) (writers : Option ℕ) → Has b (no_entries b.opening.entries writers) → b.opening.entries ≡ with_all_shared [] objects → repeats id_eq (map id_of objects) ≡ false
+pub starts : (b : AdmissionTables) (objects : List Object) (writers : Option ℕ) → Has b (no_entries b.opening.entries writers) → b.opening.entries ≡ with_all_shared [] objects → repeats id_eq (map id_of objects) ≡ false
     → ((n : ℕ) → writers ≡ Some n → n < 2 ^ 32) → HasRoom 0 b → b.low ≡ 0 → IsKept b × (shown b ≡ opened objects writers)
 starts b objects writers has shared once small room low = (
   kept_as b (no_entries b.opening.entries writers) has (nothing_kept b.opening.entries writers (opening_kept b.opening.entries objects shared once) small) room 0 low

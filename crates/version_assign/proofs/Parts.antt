@@ -7,9 +7,9 @@ use Rattle.chain_types.specs.declared.objects.ObjectId.{ObjectId}
 use Rattle.chain_types.specs.Equal.{digest_eq}
 use Rattle.protocol_spec.specs.Member.Admission.{Admission, is_known}
 use Rattle.protocol_spec.specs.Chain.Words.{Each, repeats}
-use Rattle.version_assign.specs.declared.book.Admit.{Admit}
-use Rattle.version_assign.specs.declared.book.Book.{Book}
-use Rattle.version_assign.specs.declared.book.Row.{Row}
+use Rattle.version_assign.specs.declared.book.AdmittedCertificate.{AdmittedCertificate}
+use Rattle.version_assign.specs.declared.book.AdmissionTables.{AdmissionTables}
+use Rattle.version_assign.specs.declared.book.PendingCertificate.{PendingCertificate}
 use Rattle.version_assign.specs.Books.{Aligned, AreLines, AreRows, HasRoom, IsKept, IsLet, IsNew, IsOpening, IsSkipped, admitted_as, object_in, pending_in, shown}
 use Rattle.version_assign.specs.Calls.{Admitting}
 use Rattle.version_assign.specs.Lines.{LineMap}
@@ -18,14 +18,14 @@ pub record Parts : Type 0 where
   pub opening : List (ObjectId × Object)
   pub writers : Option ℕ
   pub lines : LineMap
-  pub rows : List (Option Row)
-  pub admitted : List (Digest × Admit)
+  pub rows : List (Option PendingCertificate)
+  pub admitted : List (Digest × AdmittedCertificate)
   pub dropped : List Digest
   pub known : List Digest
   pub marked : ℕ
   pub waiting : ℕ
 
-abbrev pub parts_of : Book → Parts
+abbrev pub parts_of : AdmissionTables → Parts
 parts_of b = record {
   opening = b.opening.entries;
   writers = b.writers;
@@ -57,7 +57,7 @@ pub record AreKept (x : Parts) : Type 0 where
   pub waiting : x.waiting ≡ length (pending_in x.rows)
   pub within : x.marked ≤ length x.admitted
 
-whole : (b : Book) → AreKept (parts_of b) → HasRoom 0 b → IsSkipped b.low b.rows.items → IsKept b
+whole : (b : AdmissionTables) → AreKept (parts_of b) → HasRoom 0 b → IsSkipped b.low b.rows.items → IsKept b
 whole b kept room skipped = record {
   opening = kept.opening;
   lines = kept.lines;
@@ -75,7 +75,7 @@ whole b kept room skipped = record {
 }
 
 -- the tables of a book are these lists
-pub record Has (b : Book) (x : Parts) : Type 0 where
+pub record Has (b : AdmissionTables) (x : Parts) : Type 0 where
   pub opening : b.opening.entries ≡ x.opening
   pub writers : b.writers ≡ x.writers
   pub lines : b.lines.entries ≡ x.lines
@@ -86,22 +86,22 @@ pub record Has (b : Book) (x : Parts) : Type 0 where
   pub marked : b.marked ≡ x.marked
   pub waiting : b.waiting ≡ x.waiting
 
-parts_are : (b : Book) (x : Parts) → Has b x → parts_of b ≡ x
+parts_are : (b : AdmissionTables) (x : Parts) → Has b x → parts_of b ≡ x
 parts_are b x has =
     ap (λ (v : List (ObjectId × Object)). let y : Parts = record (parts_of b) { opening = v } in y) has.opening
     ∙ ap (λ (v : Option ℕ). let y : Parts = record (parts_of b) { opening = x.opening; writers = v } in y) has.writers
     ∙ ap (λ (v : LineMap). let y : Parts = record (parts_of b) { opening = x.opening; writers = x.writers; lines = v } in y) has.lines
-    ∙ ap (λ (v : List (Option Row)). let y : Parts = record (parts_of b) { opening = x.opening; writers = x.writers; lines = x.lines; rows = v } in y) has.rows
-    ∙ ap (λ (v : List (Digest × Admit)). let y : Parts = record (parts_of b) { opening = x.opening; writers = x.writers; lines = x.lines; rows = x.rows; admitted = v } in y) has.admitted
+    ∙ ap (λ (v : List (Option PendingCertificate)). let y : Parts = record (parts_of b) { opening = x.opening; writers = x.writers; lines = x.lines; rows = v } in y) has.rows
+    ∙ ap (λ (v : List (Digest × AdmittedCertificate)). let y : Parts = record (parts_of b) { opening = x.opening; writers = x.writers; lines = x.lines; rows = x.rows; admitted = v } in y) has.admitted
     ∙ ap (λ (v : List Digest). let y : Parts = record x { dropped = v; known = b.known.keys; marked = b.marked; waiting = b.waiting } in y) has.dropped
     ∙ ap (λ (v : List Digest). let y : Parts = record x { known = v; marked = b.marked; waiting = b.waiting } in y) has.known
     ∙ ap (λ (v : ℕ). let y : Parts = record x { marked = v; waiting = b.waiting } in y) has.marked
     ∙ ap (λ (v : ℕ). let y : Parts = record x { waiting = v } in y) has.waiting
 
-pub kept_as : (b : Book) (x : Parts) → Has b x → AreKept x → HasRoom 0 b → (low : ℕ) → b.low ≡ low → IsSkipped low x.rows → IsKept b
+pub kept_as : (b : AdmissionTables) (x : Parts) → Has b x → AreKept x → HasRoom 0 b → (low : ℕ) → b.low ≡ low → IsSkipped low x.rows → IsKept b
 kept_as b x has kept room low is skipped =
     whole b (subst AreKept (sym (parts_are b x has)) kept) room
     (subst (λ n. IsSkipped n b.rows.items) (sym is) (subst (IsSkipped low) (sym has.rows) skipped))
 
-pub shown_as : (b : Book) (x : Parts) → Has b x → shown b ≡ shown_in x
+pub shown_as : (b : AdmissionTables) (x : Parts) → Has b x → shown b ≡ shown_in x
 shown_as b x has = ap shown_in (parts_are b x has)

@@ -12,10 +12,10 @@ use Rattle.chain_types.specs.declared.objects.ObjectId.{ObjectId}
 use Rattle.chain_types.specs.Equal.{digest_eq}
 use Rattle.protocol_spec.specs.declared.answers.Held.{Held}
 use Rattle.protocol_spec.specs.Member.Admission.{Admission, Admitted, admit, has_room, is_admitted, is_dropped, since_mark, taken_as, writes}
-use Rattle.version_assign.specs.declared.book.Admit.{Admit}
-use Rattle.version_assign.specs.declared.book.Book.{Book}
-use Rattle.version_assign.specs.declared.book.Row.{Row}
-use Rattle.version_assign.specs.declared.waits.Waits.{Waits}
+use Rattle.version_assign.specs.declared.book.AdmittedCertificate.{AdmittedCertificate}
+use Rattle.version_assign.specs.declared.book.AdmissionTables.{AdmissionTables}
+use Rattle.version_assign.specs.declared.book.PendingCertificate.{PendingCertificate}
+use Rattle.version_assign.specs.declared.waits.PendingIndex.{PendingIndex}
 use Rattle.version_assign.specs.Books.{AreLines, IsKept, admission_of, admitted_as, opening_of, row_at, shown}
 use Rattle.version_assign.specs.Calls.{Admitting, with_taken}
 use Rattle.version_assign.specs.Lines.{LineMap}
@@ -28,7 +28,7 @@ use Rattle.version_assign.proofs.Rows.{clash}
 
 -- ---- other words for what is admitted and has room
 
-module _ (rows : List (Option Row)) (w : Waits) (admits later : Digest → Bool) (room after : ObjectId → Bool) (due other : ObjectId → Bool)
+module _ (rows : List (Option PendingCertificate)) (w : PendingIndex) (admits later : Digest → Bool) (room after : ObjectId → Bool) (due other : ObjectId → Bool)
     (still : (tx : Digest) → admits tx ≡ false → later tx ≡ false) (full : (id : ObjectId) → room id ≡ false → (other id ≡ true) ⊎ (after id ≡ false)) (more : (id : ObjectId) → due id ≡ true → other id ≡ true) where
   pub filed_as : IsFiled rows w admits room due → IsFiled rows w later after other
   filed_as filed = record { at = λ whole q x here. go q x (filed.at whole q x here) }
@@ -42,16 +42,16 @@ module _ (rows : List (Option Row)) (w : Waits) (admits later : Digest → Bool)
           by (inl o) = is_open o
           by (inr f) = is_full f
 
-      go : (q : ℕ) (x : Row) → Reason rows w admits room due q x.held.cert → Reason rows w later after other q x.held.cert
+      go : (q : ℕ) (x : PendingCertificate) → Reason rows w admits room due q x.held.cert → Reason rows w later after other q x.held.cert
       go q x (may_be_free awake) = may_be_free awake
       go q x (stands_behind tx has off under) = stands_behind tx has (still tx off) under
       go q x (is_queued id named under turn) = is_queued id named under (turn_of id q turn)
 
 -- nothing is seen to move
-pub filed_same : (old new : Book) (w : Waits) → shown new ≡ shown old → new.rows.items ≡ old.rows.items → IsFiledIn old w → IsFiledIn new w
+pub filed_same : (old new : AdmissionTables) (w : PendingIndex) → shown new ≡ shown old → new.rows.items ≡ old.rows.items → IsFiledIn old w → IsFiledIn new w
 filed_same old new w same rows filed =
     subst (λ (s : Admitting). IsFiled new.rows.items w (is_admitted s.admission.admitted) (has_room s.writers s.admission) none_open) (sym same)
-    (subst (λ (rs : List (Option Row)). IsFiled rs w (admits_in old) (room_in old) none_open) (sym rows) filed)
+    (subst (λ (rs : List (Option PendingCertificate)). IsFiled rs w (admits_in old) (room_in old) none_open) (sym rows) filed)
 
 -- ---- one is taken
 
@@ -81,15 +81,15 @@ taken_room false opening (Some n) a h id within full =
     above : (k more limit : ℕ) → nat_lt k limit ≡ false → nat_lt (k + more) limit ≡ false
     above k more limit e = grind (arith, nat_tests)
 
-rows_stay : (mid new : Book) (r : Row) (o : Option ℕ) → Gives mid new r.held r.assigned.items o → new.rows.items ≡ mid.rows.items
+rows_stay : (mid new : AdmissionTables) (r : PendingCertificate) (o : Option ℕ) → Gives mid new r.held r.assigned.items o → new.rows.items ≡ mid.rows.items
 rows_stay mid new r None d = d.rows
 rows_stay mid new r (Some v) d = d.rows
 
-pub given_filed : (before mid new : Book) (place : ℕ) (r : Row) (w : Waits) → IsKept before → TakesOut before mid place r → Gives mid new r.held r.assigned.items (judged mid.opening.entries mid.lines.entries r.held.cert r.assigned.items)
+pub given_filed : (before mid new : AdmissionTables) (place : ℕ) (r : PendingCertificate) (w : PendingIndex) → IsKept before → TakesOut before mid place r → Gives mid new r.held r.assigned.items (judged mid.opening.entries mid.lines.entries r.held.cert r.assigned.items)
     → shown new ≡ with_taken (shown before) (Some r.held) → IsFiled mid.rows.items w (admits_also (admits_in mid) r.held.digest) (room_in mid) none_open → IsFiledIn new w
 given_filed before mid new place r w kept t gives seen filed =
     subst (λ (s : Admitting). IsFiled new.rows.items w (is_admitted s.admission.admitted) (has_room s.writers s.admission) none_open) (sym seen)
-    (subst (λ (rs : List (Option Row)). IsFiled rs w (is_admitted a.admitted) (has_room before.writers a) none_open) (sym (rows_stay mid new r (judged mid.opening.entries mid.lines.entries r.held.cert r.assigned.items) gives))
+    (subst (λ (rs : List (Option PendingCertificate)). IsFiled rs w (is_admitted a.admitted) (has_room before.writers a) none_open) (sym (rows_stay mid new r (judged mid.opening.entries mid.lines.entries r.held.cert r.assigned.items) gives))
     (filed_as mid.rows.items w (admits_also (admits_in mid) r.held.digest) (is_admitted a.admitted) (room_in mid) (has_room before.writers a) none_open none_open
     (λ tx off. taken_admits dropped (opening_of before) (admission_of before) r.held tx (ap (λ b. b || digest_eq r.held.digest tx) (sym (same_admits before mid place r t tx)) ∙ off))
     (λ id full. inr (taken_room dropped (opening_of before) before.writers (admission_of before) r.held id within (sym (same_room before mid place r t id) ∙ full)))
@@ -105,7 +105,7 @@ given_filed before mid new place r w kept t gives seen filed =
     within = subst (λ n. before.marked ≤ n) (sym (length-map before.admitted.entries admitted_as)) kept.within
 
 -- what is known of objects, if a certificate is taken out
-pub lines_out : (before mid : Book) (place : ℕ) (r : Row) → IsKept before → TakesOut before mid place r → AreLines mid.writers (opening_of mid) (admission_of mid) mid.lines.entries
+pub lines_out : (before mid : AdmissionTables) (place : ℕ) (r : PendingCertificate) → IsKept before → TakesOut before mid place r → AreLines mid.writers (opening_of mid) (admission_of mid) mid.lines.entries
 lines_out before mid place r kept t =
     subst (λ (es : LineMap). AreLines mid.writers (opening_of mid) (admission_of mid) es) (sym t.lines)
     (subst (λ (n : Option ℕ). AreLines n (opening_of mid) (admission_of mid) before.lines.entries) (sym t.writers)
@@ -120,10 +120,10 @@ lines_out before mid place r kept t =
 
 -- ---- one more row
 
-pub added_filed : (old new : Book) (r : Row) (w v : Waits) (place : ℕ) → place ≡ length old.rows.items → AddsRow old new r → Grows w v → (v.whole ≡ true → is_awake v place ≡ true) → IsFiledIn old w → IsFiledIn new v
+pub added_filed : (old new : AdmissionTables) (r : PendingCertificate) (w v : PendingIndex) (place : ℕ) → place ≡ length old.rows.items → AddsRow old new r → Grows w v → (v.whole ≡ true → is_awake v place ≡ true) → IsFiledIn old w → IsFiledIn new v
 added_filed old new r w v place is m grows woken filed = record { at = λ whole q x here. go whole q x (row_of old.rows.items q x (sym (ap (λ rows. row_at rows q) m.rows) ∙ here)) }
   where
-    row_of : (rows : List (Option Row)) (q : ℕ) (x : Row) → row_at (rows ++ Some r ∷ []) q ≡ Some x → (row_at rows q ≡ Some x) ⊎ (q ≡ length rows)
+    row_of : (rows : List (Option PendingCertificate)) (q : ℕ) (x : PendingCertificate) → row_at (rows ++ Some r ∷ []) q ≡ Some x → (row_at rows q ≡ Some x) ⊎ (q ≡ length rows)
     row_of [] zero x at = inr refl
     row_of [] (suc q) x at = absurd (cc)
     row_of (y ∷ rows) zero x at = inl at
@@ -133,7 +133,7 @@ added_filed old new r w v place is m grows woken filed = record { at = λ whole 
         next (inl a) = inl a
         next (inr b) = inr (ap suc b)
 
-    stays : (rows : List (Option Row)) (p : ℕ) (id : ObjectId) → writes_at rows p id ≡ true → writes_at (rows ++ Some r ∷ []) p id ≡ true
+    stays : (rows : List (Option PendingCertificate)) (p : ℕ) (id : ObjectId) → writes_at rows p id ≡ true → writes_at (rows ++ Some r ∷ []) p id ≡ true
     stays [] zero id e = absurd (cc)
     stays [] (suc p) id e = absurd (cc)
     stays (y ∷ rows) zero id e = e
@@ -156,12 +156,12 @@ added_filed old new r w v place is m grows woken filed = record { at = λ whole 
     turn_of id q (is_open e) = is_open e
     turn_of id q (has_turn p awake before writes) = has_turn p awake before (ap (λ rows. writes_at rows p id) m.rows ∙ stays old.rows.items p id writes)
 
-    reason : (q : ℕ) (x : Row) → Reason old.rows.items v (admits_in old) (room_in old) none_open q x.held.cert → Reason new.rows.items v (admits_in new) (room_in new) none_open q x.held.cert
+    reason : (q : ℕ) (x : PendingCertificate) → Reason old.rows.items v (admits_in old) (room_in old) none_open q x.held.cert → Reason new.rows.items v (admits_in new) (room_in new) none_open q x.held.cert
     reason q x (may_be_free awake) = may_be_free awake
     reason q x (stands_behind tx has off under) = stands_behind tx has (admits_same tx ∙ off) under
     reason q x (is_queued id named under turn) = is_queued id named under (turn_of id q turn)
 
-    go : v.whole ≡ true → (q : ℕ) (x : Row) → (row_at old.rows.items q ≡ Some x) ⊎ (q ≡ length old.rows.items) → Reason new.rows.items v (admits_in new) (room_in new) none_open q x.held.cert
+    go : v.whole ≡ true → (q : ℕ) (x : PendingCertificate) → (row_at old.rows.items q ≡ Some x) ⊎ (q ≡ length old.rows.items) → Reason new.rows.items v (admits_in new) (room_in new) none_open q x.held.cert
     go whole q x (inl here) = reason q x ((filed_grows old.rows.items (admits_in old) (room_in old) none_open w v grows filed).at whole q x here)
     go whole q x (inr last) = may_be_free (ap (is_awake v) (last ∙ sym is) ∙ woken whole)
 
@@ -185,14 +185,14 @@ fewer limit id (x ∷ xs) e = go (writes id x) refl (sym (ap (λ k. nat_lt k lim
         by (inl some) = inl (ap (λ b. b || list_any (writes id) xs) is ∙ some)
         by (inr none) = inr none
 
-cut_room : (old new : Book) → Marks old new → (id : ObjectId) → room_in old id ≡ false → (wrote_one (drop old.marked old.admitted.entries) id ≡ true) ⊎ (room_in new id ≡ false)
+cut_room : (old new : AdmissionTables) → Marks old new → (id : ObjectId) → room_in old id ≡ false → (wrote_one (drop old.marked old.admitted.entries) id ≡ true) ⊎ (room_in new id ≡ false)
 cut_room old new m id full = go old.writers refl full
   where
-    nothing_since : (es : List (Digest × Admit)) → drop (length es) (map admitted_as es) ≡ []
+    nothing_since : (es : List (Digest × AdmittedCertificate)) → drop (length es) (map admitted_as es) ≡ []
     nothing_since [] = refl
     nothing_since (e ∷ es) = nothing_since es
 
-    dropped : (es : List (Digest × Admit)) (n : ℕ) → drop n (map admitted_as es) ≡ map admitted_as (drop n es)
+    dropped : (es : List (Digest × AdmittedCertificate)) (n : ℕ) → drop n (map admitted_as es) ≡ map admitted_as (drop n es)
     dropped [] zero = refl
     dropped [] (suc n) = refl
     dropped (e ∷ es) zero = refl
@@ -215,9 +215,9 @@ cut_room old new m id full = go old.writers refl full
         by (inr none) = inr (since n (m.writers ∙ is) none)
 
 -- the queues of what was written since the last cut are due
-pub cut_filed : (old new : Book) (w : Waits) → Marks old new → IsFiledIn old w → IsFiled new.rows.items w (admits_in new) (room_in new) (wrote_one (drop old.marked new.admitted.entries))
+pub cut_filed : (old new : AdmissionTables) (w : PendingIndex) → Marks old new → IsFiledIn old w → IsFiled new.rows.items w (admits_in new) (room_in new) (wrote_one (drop old.marked new.admitted.entries))
 cut_filed old new w m filed =
-    subst (λ (rs : List (Option Row)). IsFiled rs w (admits_in new) (room_in new) (wrote_one (drop old.marked new.admitted.entries))) (sym (ap (λ v. v.items) m.rows))
+    subst (λ (rs : List (Option PendingCertificate)). IsFiled rs w (admits_in new) (room_in new) (wrote_one (drop old.marked new.admitted.entries))) (sym (ap (λ v. v.items) m.rows))
     (filed_as old.rows.items w (admits_in old) (admits_in new) (room_in old) (room_in new) none_open (wrote_one (drop old.marked new.admitted.entries))
     (λ tx off. ap (λ e. is_admitted (map admitted_as e.entries) tx) m.admitted ∙ off)
     (λ id full. by id (cut_room old new m id full))
@@ -228,9 +228,9 @@ cut_filed old new w m filed =
     by id (inr full) = inr full
 
 -- before the first entry
-pub nothing_filed : (b : Book) (w : Waits) → b.rows.items ≡ [] → IsFiledIn b w
+pub nothing_filed : (b : AdmissionTables) (w : PendingIndex) → b.rows.items ≡ [] → IsFiledIn b w
 nothing_filed b w none = record { at = λ whole q x here. absurd (no q x (ap (λ rows. row_at rows q) (sym none) ∙ here)) }
   where
-    no : (q : ℕ) (x : Row) → row_at [] q ≡ Some x → ⊥
+    no : (q : ℕ) (x : PendingCertificate) → row_at [] q ≡ Some x → ⊥
     no zero x f = cc
     no (suc q) x f = cc

@@ -22,9 +22,9 @@ use Rattle.protocol_spec.specs.Chain.Keys.{version_limit}
 use Rattle.protocol_spec.proofs.ListLemmas.{and-second, any-push, filter-each, not-true, each_push}
 use Rattle.protocol_spec.specs.Member.Admission.{Admission, Admitted, admit, assignments, has_room, is_admitted, is_dropped, is_free, is_known, is_origin_admitted, joined_inputs, lacks_shared, mutable_ids, not_of, opening_object, is_shared_object, since_mark, taken_as, version_at_admission, writes}
 use Rattle.tables.proofs.Lookups.{goes_last}
-use Rattle.version_assign.specs.declared.book.Admit.{Admit}
-use Rattle.version_assign.specs.declared.book.Book.{Book}
-use Rattle.version_assign.specs.declared.book.Row.{Row}
+use Rattle.version_assign.specs.declared.book.AdmittedCertificate.{AdmittedCertificate}
+use Rattle.version_assign.specs.declared.book.AdmissionTables.{AdmissionTables}
+use Rattle.version_assign.specs.declared.book.PendingCertificate.{PendingCertificate}
 use Rattle.version_assign.specs.Books.{stands, AreRows, HasRoom, IsKept, IsLet, IsNew, IsOpening, IsRow, IsSkipped, admission_of, admitted_as, begun_of, held_in, lacks_one, object_in, opening_of, pending_in, row_at, shown, version_within}
 use Rattle.version_assign.specs.Calls.{Admitting, with_taken}
 use Rattle.version_assign.specs.Lines.{LineMap, begun, filled, greatest_of, line_at, move_all}
@@ -67,13 +67,13 @@ within_is lacks greatest version is =
     by false true e = ap (λ c. version_or (c || false) (suc greatest)) (sym (limit ∙ e))
     by false false e = ap Some (add-one greatest) ∙ ap (λ c. version_or (c || false) (suc greatest)) (sym (limit ∙ e))
 
-pub lets_more : (lines more : LineMap) → KeepsLines lines more → (es : List (Digest × Admit)) → Each (IsLet lines) es → Each (IsLet more) es
+pub lets_more : (lines more : LineMap) → KeepsLines lines more → (es : List (Digest × AdmittedCertificate)) → Each (IsLet lines) es → Each (IsLet more) es
 lets_more lines more keeps [] all = tt
 lets_more lines more keeps (e ∷ es) all = (record { lined = lined_more lines more e.1.assigned keeps all.0.lined; named = all.0.named }, lets_more lines more keeps es all.1)
 
 -- ---- of a row that waits
 
-module _ (old : Book) (kept : IsKept old) (p : ℕ) (r : Row) (at : row_at old.rows.items p ≡ Some r) where
+module _ (old : AdmissionTables) (kept : IsKept old) (p : ℕ) (r : PendingCertificate) (at : row_at old.rows.items p ≡ Some r) where
   abbrev a : Admission
   a = admission_of old
 
@@ -102,7 +102,7 @@ module _ (old : Book) (kept : IsKept old) (p : ℕ) (r : Row) (at : row_at old.r
 
   -- ---- what is left of the rows
 
-  abbrev left : List (Option Row)
+  abbrev left : List (Option PendingCertificate)
   left = slice_set old.rows.items p None
 
   pending_left : pending_in left ≡ filter (not_of r.held) a.pending
@@ -204,7 +204,7 @@ module _ (old : Book) (kept : IsKept old) (p : ℕ) (r : Row) (at : row_at old.r
   abbrev assigned : List Assigned
   assigned = map (filled old.lines.entries) r.assigned.items
 
-  abbrev let_in : Digest × Admit
+  abbrev let_in : Digest × AdmittedCertificate
   let_in = (r.held.digest, record { cert = c; version = version; assigned = assigned })
 
   abbrev moved_lines : LineMap
@@ -315,7 +315,7 @@ module _ (old : Book) (kept : IsKept old) (p : ℕ) (r : Row) (at : row_at old.r
 
 -- ---- the step
 
-module _ (old mid new : Book) (p : ℕ) (r : Row) (kept : IsKept old) (t : TakesOut old mid p r) (gives : Gives mid new r.held r.assigned.items (judged mid.opening.entries mid.lines.entries r.held.cert r.assigned.items))
+module _ (old mid new : AdmissionTables) (p : ℕ) (r : PendingCertificate) (kept : IsKept old) (t : TakesOut old mid p r) (gives : Gives mid new r.held r.assigned.items (judged mid.opening.entries mid.lines.entries r.held.cert r.assigned.items))
     (free : is_free old.writers (admission_of old) r.held ≡ true) where
   drops_case : is_dropped (opening_of old) (admission_of old).admitted r.held.cert ≡ true → Drops mid new r.held → IsKept new × (shown new ≡ with_taken (shown old) (Some r.held))
   drops_case drops d = (
@@ -370,7 +370,7 @@ module _ (old mid new : Book) (p : ℕ) (r : Row) (kept : IsKept old) (t : Takes
         rows = d.rows ∙ t.rows;
         admitted =
             d.admitted
-            ∙ ap (λ (es : List (Digest × Admit)). insert_entry digest_eq es r.held.digest (record { cert = r.held.cert; version = version_at_admission (opening_of old) (admission_of old).admitted r.held.cert; assigned = map (filled mid.lines.entries) r.assigned.items })) (ap (λ m. m.entries) t.admitted)
+            ∙ ap (λ (es : List (Digest × AdmittedCertificate)). insert_entry digest_eq es r.held.digest (record { cert = r.held.cert; version = version_at_admission (opening_of old) (admission_of old).admitted r.held.cert; assigned = map (filled mid.lines.entries) r.assigned.items })) (ap (λ m. m.entries) t.admitted)
             ∙ ap (λ (ls : LineMap). insert_entry digest_eq old.admitted.entries r.held.digest (record { cert = r.held.cert; version = version_at_admission (opening_of old) (admission_of old).admitted r.held.cert; assigned = map (filled ls) r.assigned.items })) t.lines
             ∙ goes_behind old kept p r t.row;
         dropped = ap (λ v. v.items) d.dropped ∙ ap (λ v. v.items) t.dropped;
@@ -407,22 +407,22 @@ module _ (old mid new : Book) (p : ℕ) (r : Row) (kept : IsKept old) (t : Takes
 
 -- ---- what the step asks
 
-pub waits_some : (old : Book) → IsKept old → (p : ℕ) → is_some (row_at old.rows.items p) ≡ true → 0 < old.waiting
+pub waits_some : (old : AdmissionTables) → IsKept old → (p : ℕ) → is_some (row_at old.rows.items p) ≡ true → 0 < old.waiting
 waits_some old kept p some =
-    let r : (r : Row) × (row_at old.rows.items p ≡ Some r) = the_row (row_at old.rows.items p) some in
+    let r : (r : PendingCertificate) × (row_at old.rows.items p ≡ Some r) = the_row (row_at old.rows.items p) some in
     let l : length (pending_in (slice_set old.rows.items p None)) + 1 ≡ length (pending_in old.rows.items) = out_length old.rows.items p r.0 r.1 in
     let w : old.waiting ≡ length (pending_in old.rows.items) = kept.waiting in
     omega arith
 
-pub row_free : (s : Admitting) (o : Option Row) (r : Row) → o ≡ Some r → is_free_one s (held_in o) ≡ true → is_free s.writers s.admission r.held ≡ true
+pub row_free : (s : Admitting) (o : Option PendingCertificate) (r : PendingCertificate) → o ≡ Some r → is_free_one s (held_in o) ≡ true → is_free s.writers s.admission r.held ≡ true
 row_free s o r is free = ap (λ q. is_free_one s (held_in q)) (sym is) ∙ free
 
-pub seen_as : (s : Admitting) (o : Option Row) (r : Row) → o ≡ Some r → with_taken s (Some r.held) ≡ with_taken s (held_in o)
+pub seen_as : (s : Admitting) (o : Option PendingCertificate) (r : PendingCertificate) → o ≡ Some r → with_taken s (Some r.held) ≡ with_taken s (held_in o)
 seen_as s o r is = ap (λ q. with_taken s (held_in q)) (sym is)
 
 -- ---- places are skipped
 
-pub skips : (old new : Book) → IsKept old → Skips old new → IsKept new × (shown new ≡ shown old)
+pub skips : (old new : AdmissionTables) → IsKept old → Skips old new → IsKept new × (shown new ≡ shown old)
 skips old new kept m = (
   kept_as new (parts_of old) has (record {
     opening = kept.opening;

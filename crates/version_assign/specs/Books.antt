@@ -17,47 +17,47 @@ use Rattle.protocol_spec.specs.Chain.Words.{Each, first_of, first_some, last_whe
 use Rattle.protocol_spec.specs.Chain.Keys.{objects_of}
 use Rattle.protocol_spec.specs.Chain.Shape.{shape_fault}
 use Rattle.protocol_spec.specs.Member.Admission.{Admitted, Admission, Standing, beginning_by, cert_of, is_admitted, is_known, is_shared_object, joined_inputs, opening_object, since_mark, standing_after, writes}
-use Rattle.version_assign.specs.declared.book.Admit.{Admit}
-use Rattle.version_assign.specs.declared.book.Book.{Book}
-use Rattle.version_assign.specs.declared.book.Row.{Row}
+use Rattle.version_assign.specs.declared.book.AdmittedCertificate.{AdmittedCertificate}
+use Rattle.version_assign.specs.declared.book.AdmissionTables.{AdmissionTables}
+use Rattle.version_assign.specs.declared.book.PendingCertificate.{PendingCertificate}
 use Rattle.version_assign.specs.Calls.{Admitting}
 use Rattle.version_assign.specs.Lines.{LineMap, are_lined, begun, line_at}
 
 -- ---- what the tables stand for
 
-abbrev pub held_in : Option Row → Option Held
+abbrev pub held_in : Option PendingCertificate → Option Held
 held_in None = None
 held_in (Some r) = Some r.held
 
 -- the certificates that wait, in the order in which they came
-abbrev pub pending_in : List (Option Row) → List Held
+abbrev pub pending_in : List (Option PendingCertificate) → List Held
 pending_in rows = filter_map held_in rows
 
-abbrev pub row_in : Option (Option Row) → Option Row
+abbrev pub row_in : Option (Option PendingCertificate) → Option PendingCertificate
 row_in None = None
 row_in (Some r) = r
 
 -- the certificate that waits at a place
-abbrev pub row_at : List (Option Row) → ℕ → Option Row
+abbrev pub row_at : List (Option PendingCertificate) → ℕ → Option PendingCertificate
 row_at rows place = row_in (slice_get rows place)
 
-abbrev pub placed : List (Option Row) → Option ℕ → Option Held
+abbrev pub placed : List (Option PendingCertificate) → Option ℕ → Option Held
 placed rows None = None
 placed rows (Some place) = held_in (row_at rows place)
 
-abbrev pub admitted_as : (Digest × Admit) → Admitted
+abbrev pub admitted_as : (Digest × AdmittedCertificate) → Admitted
 admitted_as e = record { digest = e.0; cert = e.1.cert; version = e.1.version; assigned = e.1.assigned }
 
 abbrev pub object_in : (ObjectId × Object) → Object
 object_in e = e.1
 
-abbrev pub admission_of : Book → Admission
+abbrev pub admission_of : AdmissionTables → Admission
 admission_of b = record { admitted = map admitted_as b.admitted.entries; dropped = b.dropped.items; pending = pending_in b.rows.items; marked = b.marked }
 
-abbrev pub opening_of : Book → List Object
+abbrev pub opening_of : AdmissionTables → List Object
 opening_of b = map object_in b.opening.entries
 
-abbrev pub shown : Book → Admitting
+abbrev pub shown : AdmissionTables → Admitting
 shown b = record { opening = opening_of b; writers = b.writers; admission = admission_of b }
 
 -- ---- how the tables are kept
@@ -85,22 +85,22 @@ abbrev pub begun_of : List Object → Certificate → List Assigned
 begun_of opening c = filter_map (begun opening) (joined_inputs c)
 
 -- a row that waits: its certificate has a valid shape and an origin for each object, and its shared inputs have lines
-pub record IsRow (opening : List Object) (lines : LineMap) (r : Row) : Type 0 where
+pub record IsRow (opening : List Object) (lines : LineMap) (r : PendingCertificate) : Type 0 where
   pub shaped : shape_fault r.held.cert.tx ≡ None
   pub origins : length r.held.cert.origins ≡ length (objects_of r.held.cert.tx)
   pub begins : r.assigned.items ≡ begun_of opening r.held.cert
   pub lined : are_lined lines r.assigned.items ≡ true
 
-pub record AreRows (opening : List Object) (lines : LineMap) (rows : List (Option Row)) : Type 0 where
-  pub at : (place : ℕ) (r : Row) → row_at rows place ≡ Some r → IsRow opening lines r
+pub record AreRows (opening : List Object) (lines : LineMap) (rows : List (Option PendingCertificate)) : Type 0 where
+  pub at : (place : ℕ) (r : PendingCertificate) → row_at rows place ≡ Some r → IsRow opening lines r
 
 -- an admitted certificate: each object that was assigned has a line, and each that it writes was assigned
-pub record IsLet (lines : LineMap) (e : Digest × Admit) : Type 0 where
+pub record IsLet (lines : LineMap) (e : Digest × AdmittedCertificate) : Type 0 where
   pub lined : are_lined lines e.1.assigned ≡ true
   pub named : (id : ObjectId) → writes id (admitted_as e) ≡ true → list_any (λ (x : Assigned). id_eq id x.id) e.1.assigned ≡ true
 
 -- rows and digests stand side by side: each row that still waits has the digest at its place
-abbrev pub Aligned : List (Option Row) → List Digest → Type 0
+abbrev pub Aligned : List (Option PendingCertificate) → List Digest → Type 0
 Aligned [] [] = Unit {0}
 Aligned [] (k ∷ ks) = ⊥
 Aligned (r ∷ rs) [] = ⊥
@@ -111,16 +111,16 @@ abbrev pub IsNew : List Admitted → Held → Type 0
 IsNew admitted h = is_admitted admitted h.digest ≡ false
 
 -- no certificate waits at a place below this one
-pub record IsSkipped (low : ℕ) (rows : List (Option Row)) : Type 0 where
+pub record IsSkipped (low : ℕ) (rows : List (Option PendingCertificate)) : Type 0 where
   pub none : (place : ℕ) → place < low → row_at rows place ≡ None
   pub within : low ≤ length rows
 
 -- there is room for all that wait
-pub record HasRoom (more : ℕ) (b : Book) : Type 0 where
+pub record HasRoom (more : ℕ) (b : AdmissionTables) : Type 0 where
   pub admitted : b.waiting + more ≤ spare b.admitted
   pub dropped : vec_len b.dropped + b.waiting + more ≤ vec_capacity b.dropped
 
-pub record IsKept (b : Book) : Type 0 where
+pub record IsKept (b : AdmissionTables) : Type 0 where
   pub opening : IsOpening b.opening.entries
   pub lines : AreLines b.writers (opening_of b) (admission_of b) b.lines.entries
   pub small : (n : ℕ) → b.writers ≡ Some n → n < 2 ^ 32

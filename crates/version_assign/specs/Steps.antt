@@ -12,9 +12,9 @@ use Rattle.chain_messages.specs.declared.messages.Certificate.{Certificate}
 use Rattle.protocol_spec.specs.declared.answers.Assigned.{Assigned}
 use Rattle.protocol_spec.specs.declared.answers.Held.{Held}
 use Rattle.protocol_spec.specs.Member.Admission.{is_free}
-use Rattle.version_assign.specs.declared.book.Admit.{Admit}
-use Rattle.version_assign.specs.declared.book.Book.{Book}
-use Rattle.version_assign.specs.declared.book.Row.{Row}
+use Rattle.version_assign.specs.declared.book.AdmittedCertificate.{AdmittedCertificate}
+use Rattle.version_assign.specs.declared.book.AdmissionTables.{AdmissionTables}
+use Rattle.version_assign.specs.declared.book.PendingCertificate.{PendingCertificate}
 use Rattle.version_assign.specs.Books.{HasRoom, IsSkipped, lacks_one, row_at, version_within}
 use Rattle.version_assign.specs.Calls.{Admitting, is_shared_one}
 use Rattle.version_assign.specs.Lines.{LineMap, are_lined, begun_behind, clear_all, filled, greatest_of, has_line, line_at, move_all}
@@ -30,7 +30,7 @@ judged opening lines c begun =
     (greatest_of c.tx.gas.version c.tx.inputs (map (filled lines) begun))
 
 -- the row that waited at a place is taken out
-pub record TakesOut (old new : Book) (place : ℕ) (r : Row) : Type 0 where
+pub record TakesOut (old new : AdmissionTables) (place : ℕ) (r : PendingCertificate) : Type 0 where
   pub row : row_at old.rows.items place ≡ Some r
   pub rows : new.rows.items ≡ slice_set old.rows.items place None
   pub waiting : new.waiting + 1 ≡ old.waiting
@@ -44,7 +44,7 @@ pub record TakesOut (old new : Book) (place : ℕ) (r : Row) : Type 0 where
   pub writers : new.writers ≡ old.writers
 
 -- `low` goes on over places at which no certificate waits; nothing else changes
-pub record Skips (old new : Book) : Type 0 where
+pub record Skips (old new : AdmissionTables) : Type 0 where
   pub rows : new.rows ≡ old.rows
   pub waiting : new.waiting ≡ old.waiting
   pub known : new.known ≡ old.known
@@ -57,7 +57,7 @@ pub record Skips (old new : Book) : Type 0 where
   pub writers : new.writers ≡ old.writers
 
 -- a certificate is admitted at this version; its row was taken out before
-pub record Admits (old new : Book) (h : Held) (assigned : List Assigned) (version : ℕ) : Type 0 where
+pub record Admits (old new : AdmissionTables) (h : Held) (assigned : List Assigned) (version : ℕ) : Type 0 where
   pub rows : new.rows.items ≡ old.rows.items
   pub waiting : new.waiting ≡ old.waiting
   pub known : new.known.keys ≡ old.known.keys
@@ -71,7 +71,7 @@ pub record Admits (old new : Book) (h : Held) (assigned : List Assigned) (versio
   pub writers : new.writers ≡ old.writers
 
 -- a certificate is dropped; its row was taken out before
-pub record Drops (old new : Book) (h : Held) : Type 0 where
+pub record Drops (old new : AdmissionTables) (h : Held) : Type 0 where
   pub rows : new.rows.items ≡ old.rows.items
   pub waiting : new.waiting ≡ old.waiting
   pub known : new.known.keys ≡ old.known.keys
@@ -86,23 +86,23 @@ pub record Drops (old new : Book) (h : Held) : Type 0 where
   pub writers : new.writers ≡ old.writers
 
 -- a certificate is admitted at the version that `judged` gives, or dropped if it gives none
-abbrev pub Gives : Book → Book → Held → List Assigned → Option ℕ → Type 0
+abbrev pub Gives : AdmissionTables → AdmissionTables → Held → List Assigned → Option ℕ → Type 0
 Gives old new h begun None = Drops old new h
 Gives old new h begun (Some version) = Admits old new h (map (filled old.lines.entries) begun) version
 
 -- ---- marks
 
 -- the lines with the writers of all that these were assigned set to 0
-abbrev pub clear_each : LineMap → List (Digest × Admit) → LineMap
+abbrev pub clear_each : LineMap → List (Digest × AdmittedCertificate) → LineMap
 clear_each lines [] = lines
 clear_each lines (e ∷ es) = clear_each (clear_all lines e.1.assigned) es
 
-abbrev pub clear_found : LineMap → Option (Digest × Admit) → LineMap
+abbrev pub clear_found : LineMap → Option (Digest × AdmittedCertificate) → LineMap
 clear_found lines None = lines
 clear_found lines (Some e) = clear_all lines e.1.assigned
 
 -- a mark: all that was admitted is before it now, and writers count from 0
-pub record Marks (old new : Book) : Type 0 where
+pub record Marks (old new : AdmissionTables) : Type 0 where
   pub rows : new.rows ≡ old.rows
   pub waiting : new.waiting ≡ old.waiting
   pub known : new.known ≡ old.known
@@ -116,11 +116,11 @@ pub record Marks (old new : Book) : Type 0 where
 
 -- ---- entries
 
-abbrev pub digest_in : (Digest × Admit) → Digest
+abbrev pub digest_in : (Digest × AdmittedCertificate) → Digest
 digest_in e = e.0
 
 -- room was made, in the tables and for lines of new objects; nothing that a definition sees changes
-pub record MakesRoom (old new : Book) : Type 0 where
+pub record MakesRoom (old new : AdmissionTables) : Type 0 where
   pub rows : new.rows.items ≡ old.rows.items
   pub waiting : new.waiting ≡ old.waiting
   pub known : new.known.keys ≡ old.known.keys
@@ -137,7 +137,7 @@ pub record MakesRoom (old new : Book) : Type 0 where
   pub capacity : vec_capacity old.dropped ≤ vec_capacity new.dropped
 
 -- one more row can be added, and all that wait then can be taken, without more memory
-pub record HasRowRoom (b : Book) (assigned : List Assigned) : Type 0 where
+pub record HasRowRoom (b : AdmissionTables) (assigned : List Assigned) : Type 0 where
   pub rows : vec_len b.rows < vec_capacity b.rows
   pub known : 0 < set_spare b.known
   pub waiting : b.waiting + 1 < 2 ^ 64
@@ -145,12 +145,12 @@ pub record HasRowRoom (b : Book) (assigned : List Assigned) : Type 0 where
   pub lined : are_lined b.lines.entries assigned ≡ true
 
 -- the row of a certificate
-pub record IsRowOf (opening : List Object) (h : Held) (r : Row) : Type 0 where
+pub record IsRowOf (opening : List Object) (h : Held) (r : PendingCertificate) : Type 0 where
   pub held : r.held ≡ h
   pub begins : r.assigned.items ≡ begun_behind opening h.cert.tx.inputs h.cert.origins
 
 -- the row was added at the end
-pub record AddsRow (old new : Book) (r : Row) : Type 0 where
+pub record AddsRow (old new : AdmissionTables) (r : PendingCertificate) : Type 0 where
   pub rows : new.rows.items ≡ old.rows.items ++ Some r ∷ []
   pub waiting : new.waiting ≡ old.waiting + 1
   pub known : new.known.keys ≡ old.known.keys ++ r.held.digest ∷ []

@@ -12,10 +12,10 @@ use Rattle.chain_messages.specs.declared.messages.Certificate.{Certificate}
 use Rattle.protocol_spec.specs.Chain.Words.{Has}
 use Rattle.protocol_spec.specs.Chain.Tests.{has_id}
 use Rattle.protocol_spec.specs.Member.Admission.{has_room, is_admitted, mutable_ids, writes}
-use Rattle.version_assign.specs.declared.book.Admit.{Admit}
-use Rattle.version_assign.specs.declared.book.Book.{Book}
-use Rattle.version_assign.specs.declared.book.Row.{Row}
-use Rattle.version_assign.specs.declared.waits.Waits.{Waits}
+use Rattle.version_assign.specs.declared.book.AdmittedCertificate.{AdmittedCertificate}
+use Rattle.version_assign.specs.declared.book.AdmissionTables.{AdmissionTables}
+use Rattle.version_assign.specs.declared.book.PendingCertificate.{PendingCertificate}
+use Rattle.version_assign.specs.declared.waits.PendingIndex.{PendingIndex}
 use Rattle.version_assign.specs.Books.{admission_of, admitted_as, row_at}
 
 -- ---- shelves: sets of places under names (transactions, or objects)
@@ -59,15 +59,15 @@ Pops old new name (Some p) = PopsPlace old new name p
 
 -- ---- which certificates wait, and for what
 
-abbrev pub is_awake : Waits → ℕ → Bool
+abbrev pub is_awake : PendingIndex → ℕ → Bool
 is_awake w place = contains nat_cmp w.awake place
 
-abbrev pub writes_row : Option Row → ObjectId → Bool
+abbrev pub writes_row : Option PendingCertificate → ObjectId → Bool
 writes_row None id = false
 writes_row (Some r) id = has_id (mutable_ids r.held.cert) id
 
 -- a certificate waits at the place, and writes the object
-abbrev pub writes_at : List (Option Row) → ℕ → ObjectId → Bool
+abbrev pub writes_at : List (Option PendingCertificate) → ℕ → ObjectId → Bool
 writes_at rows place id = writes_row (row_at rows place) id
 
 -- `due` with these objects too
@@ -79,43 +79,43 @@ none_open id = false
 
 -- why a place may wait in the queue of an object: the object has as many writers as the limit; or an awake place, no
 -- later than this one, writes it; or its queue is still to be opened (`due`)
-pub data Turn (rows : List (Option Row)) (w : Waits) (room due : ObjectId → Bool) (id : ObjectId) (place : ℕ) : Type 0 where
+pub data Turn (rows : List (Option PendingCertificate)) (w : PendingIndex) (room due : ObjectId → Bool) (id : ObjectId) (place : ℕ) : Type 0 where
   is_full : room id ≡ false → Turn rows w room due id place
   is_open : due id ≡ true → Turn rows w room due id place
   has_turn : (p : ℕ) → is_awake w p ≡ true → p ≤ place → writes_at rows p id ≡ true → Turn rows w room due id place
 
 -- where a waiting certificate is filed: among those that may be free (awake), under an origin that is not admitted, or
 -- in the queue of an object that it writes, with a reason to be there
-pub data Reason (rows : List (Option Row)) (w : Waits) (admits : Digest → Bool) (room due : ObjectId → Bool) (place : ℕ) (c : Certificate) : Type 0 where
+pub data Reason (rows : List (Option PendingCertificate)) (w : PendingIndex) (admits : Digest → Bool) (room due : ObjectId → Bool) (place : ℕ) (c : Certificate) : Type 0 where
   may_be_free : is_awake w place ≡ true → Reason rows w admits room due place c
   stands_behind : (tx : Digest) → Has c.origins (Some tx) → admits tx ≡ false → is_under w.behind.entries tx place ≡ true → Reason rows w admits room due place c
   is_queued : (id : ObjectId) → has_id (mutable_ids c) id ≡ true → is_under w.queues.entries id.0 place ≡ true → Turn rows w room due id place → Reason rows w admits room due place c
 
 -- every waiting certificate is filed, if no table was refused memory (`whole`)
-pub record IsFiled (rows : List (Option Row)) (w : Waits) (admits : Digest → Bool) (room due : ObjectId → Bool) : Type 0 where
-  pub at : w.whole ≡ true → (place : ℕ) (r : Row) → row_at rows place ≡ Some r → Reason rows w admits room due place r.held.cert
+pub record IsFiled (rows : List (Option PendingCertificate)) (w : PendingIndex) (admits : Digest → Bool) (room due : ObjectId → Bool) : Type 0 where
+  pub at : w.whole ≡ true → (place : ℕ) (r : PendingCertificate) → row_at rows place ≡ Some r → Reason rows w admits room due place r.held.cert
 
 -- the tests of `IsFiled` as a book answers them: whether a transaction is admitted, and whether an object has room
-abbrev pub admits_in : Book → Digest → Bool
+abbrev pub admits_in : AdmissionTables → Digest → Bool
 admits_in b tx = is_admitted (admission_of b).admitted tx
 
-abbrev pub room_in : Book → ObjectId → Bool
+abbrev pub room_in : AdmissionTables → ObjectId → Bool
 room_in b id = has_room b.writers (admission_of b) id
 
-abbrev pub IsFiledIn : Book → Waits → Type 0
+abbrev pub IsFiledIn : AdmissionTables → PendingIndex → Type 0
 IsFiledIn b w = IsFiled b.rows.items w (admits_in b) (room_in b) none_open
 
 -- ---- steps
 
 -- nothing is taken out of a list; places may be added
-pub record Grows (old new : Waits) : Type 0 where
+pub record Grows (old new : PendingIndex) : Type 0 where
   pub whole : new.whole ≡ true → old.whole ≡ true
   pub awake : (p : ℕ) → is_awake old p ≡ true → is_awake new p ≡ true
   pub behind : KeepsShelf old.behind.entries new.behind.entries
   pub queues : KeepsShelf old.queues.entries new.queues.entries
 
 -- all places under a transaction were moved to those that may be free
-pub record Frees (old new : Waits) (tx : Digest) : Type 0 where
+pub record Frees (old new : PendingIndex) (tx : Digest) : Type 0 where
   pub whole : new.whole ≡ true → old.whole ≡ true
   pub awake : (p : ℕ) → is_awake old p ≡ true → is_awake new p ≡ true
   pub others : (other : Digest) (q : ℕ) → digest_eq tx other ≡ false → is_under old.behind.entries other q ≡ true → is_under new.behind.entries other q ≡ true
@@ -123,13 +123,13 @@ pub record Frees (old new : Waits) (tx : Digest) : Type 0 where
   pub queues : KeepsShelf old.queues.entries new.queues.entries
 
 -- some place up to q is awake and writes the object
-pub record HasNext (rows : List (Option Row)) (w : Waits) (id : ObjectId) (q : ℕ) : Type 0 where
+pub record HasNext (rows : List (Option PendingCertificate)) (w : PendingIndex) (id : ObjectId) (q : ℕ) : Type 0 where
   pub place : ℕ
   pub awake : is_awake w place ≡ true
   pub before : place ≤ q
   pub writes : writes_at rows place id ≡ true
 
-pub record TurnsOn (rows : List (Option Row)) (old new : Waits) (id : ObjectId) : Type 0 where
+pub record TurnsOn (rows : List (Option PendingCertificate)) (old new : PendingIndex) (id : ObjectId) : Type 0 where
   pub whole : new.whole ≡ true → old.whole ≡ true
   pub awake : (p : ℕ) → is_awake old p ≡ true → is_awake new p ≡ true
   pub behind : KeepsShelf old.behind.entries new.behind.entries
@@ -138,7 +138,7 @@ pub record TurnsOn (rows : List (Option Row)) (old new : Waits) (id : ObjectId) 
   pub next : new.whole ≡ true → (q : ℕ) → is_under new.queues.entries id.0 q ≡ true → HasNext rows new id q
 
 -- loop: only places that no longer wait, or do not write the object, were taken out of its queue
-pub record Passes (rows : List (Option Row)) (old new : Waits) (id : ObjectId) : Type 0 where
+pub record Passes (rows : List (Option PendingCertificate)) (old new : PendingIndex) (id : ObjectId) : Type 0 where
   pub whole : new.whole ≡ true → old.whole ≡ true
   pub awake : (p : ℕ) → is_awake old p ≡ true → is_awake new p ≡ true
   pub behind : KeepsShelf old.behind.entries new.behind.entries
@@ -146,32 +146,32 @@ pub record Passes (rows : List (Option Row)) (old new : Waits) (id : ObjectId) :
 
 -- opening the queues of some of the objects: if every certificate was filed with the queues of `all` still to be
 -- opened, it is filed now with only those of `rest` still to be opened
-pub record Opens (rows : List (Option Row)) (room : ObjectId → Bool) (old new : Waits) (all rest : List ObjectId) : Type 0 where
+pub record Opens (rows : List (Option PendingCertificate)) (room : ObjectId → Bool) (old new : PendingIndex) (all rest : List ObjectId) : Type 0 where
   pub at : (admits : Digest → Bool) (due : ObjectId → Bool) → IsFiled rows old admits room (or_one_of all due) → IsFiled rows new admits room (or_one_of rest due)
 
 -- the object is written by one of these admitted transactions
-abbrev pub wrote_one : List (Digest × Admit) → ObjectId → Bool
+abbrev pub wrote_one : List (Digest × AdmittedCertificate) → ObjectId → Bool
 wrote_one entries id = list_any (writes id) (map admitted_as entries)
 
-pub record OpensSince (rows : List (Option Row)) (room : ObjectId → Bool) (old new : Waits) (all rest : List (Digest × Admit)) : Type 0 where
+pub record OpensSince (rows : List (Option PendingCertificate)) (room : ObjectId → Bool) (old new : PendingIndex) (all rest : List (Digest × AdmittedCertificate)) : Type 0 where
   pub at : (admits : Digest → Bool) → IsFiled rows old admits room (wrote_one all) → IsFiled rows new admits room (wrote_one rest)
 
 -- each place in this range is awake, if the tables are whole
-pub record AreAwake (from to : ℕ) (w : Waits) : Type 0 where
+pub record AreAwake (from to : ℕ) (w : PendingIndex) : Type 0 where
   pub at : w.whole ≡ true → (q : ℕ) → from ≤ q → q < to → is_awake w q ≡ true
 
 -- the queues of all that this admitted transaction writes were opened, if there is one
-abbrev pub OpensFound : List (Option Row) → (ObjectId → Bool) → Waits → Waits → Option (Digest × Admit) → Type 0
+abbrev pub OpensFound : List (Option PendingCertificate) → (ObjectId → Bool) → PendingIndex → PendingIndex → Option (Digest × AdmittedCertificate) → Type 0
 OpensFound rows room old new None = new ≡ old
 OpensFound rows room old new (Some e) = Opens rows room old new (mutable_ids e.1.cert) []
 
 -- the certificate at this place was put aside: under an origin that is not admitted, or in the queue of a full object
-pub data Aside (w : Waits) (admits : Digest → Bool) (room : ObjectId → Bool) (place : ℕ) (c : Certificate) : Type 0 where
+pub data Aside (w : PendingIndex) (admits : Digest → Bool) (room : ObjectId → Bool) (place : ℕ) (c : Certificate) : Type 0 where
   aside_behind : (tx : Digest) → Has c.origins (Some tx) → admits tx ≡ false → is_under w.behind.entries tx place ≡ true → Aside w admits room place c
   aside_queued : (id : ObjectId) → has_id (mutable_ids c) id ≡ true → is_under w.queues.entries id.0 place ≡ true → room id ≡ false → Aside w admits room place c
 
 -- the place was taken out of those that may be free; nothing else was
-pub record Rests (old new : Waits) (place : ℕ) : Type 0 where
+pub record Rests (old new : PendingIndex) (place : ℕ) : Type 0 where
   pub whole : new.whole ≡ true → old.whole ≡ true
   pub awake : (p : ℕ) → is_awake old p ≡ true → (p ≡ place) ⊎ (is_awake new p ≡ true)
   pub behind : KeepsShelf old.behind.entries new.behind.entries

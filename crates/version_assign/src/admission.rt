@@ -1,4 +1,4 @@
-//! The admission of an epoch's certificates: the public calls, over the tables of a [`Register`].
+//! The admission of an epoch's certificates: the public calls, over the tables of a [`IndexedAdmission`].
 
 ghost use Rattle.std.specs.Prelude.{◌≡◌, ℕ, ◌<◌, ◌^◌, [], Some, IfOk, OnErr, OnOk, None, false, length, map, option_map, slice_get};
 ghost use Rattle.protocol_spec.specs.Chain.Words.{Each, repeats};
@@ -9,12 +9,12 @@ ghost use Rattle.protocol_spec.specs.Member.Admission.{Admitted, assigned_of, de
 ghost use Rattle.version_assign.specs.Changes.{IsOwn, Renews};
 ghost use Rattle.version_assign.specs.Calls.{admitted_since, dropped_since, id_of, opened, origins_of, uncut, version_of, with_cut, with_entry, with_mark};
 
-use crate::book::Book;
+use crate::book::AdmissionTables;
 use crate::changes::Change;
-use crate::register::Register;
+use crate::register::IndexedAdmission;
 use crate::shared::shared_objects;
 use crate::taken::Taken;
-use crate::waits::Waits;
+use crate::waits::PendingIndex;
 use chain_types::{Object, ObjectId};
 use digest_core::Digest;
 use indexmap::{IndexMap, IndexSet};
@@ -27,7 +27,7 @@ use wire_bcs::{OutOfMemory, Seq};
 /// objects with which the epoch opened, the limit of writers, and these lists.
 #[derive(Drop)]
 pub struct Admission {
-    register: Register,
+    register: IndexedAdmission,
     alloc: Global,
 }
 
@@ -73,7 +73,7 @@ impl Admission {
         ensures { IfOk result (λ a. a ≡ opened opening.now writers) }
     {
         bound_of(writers);
-        let book = Book {
+        let book = AdmissionTables {
             rows: Vec::new(alloc),
             known: IndexSet::new(alloc),
             admitted: IndexMap::new(alloc),
@@ -85,9 +85,9 @@ impl Admission {
             opening: shared_objects(alloc, opening)?,
             writers,
         };
-        let register = Register {
+        let register = IndexedAdmission {
             book,
-            waits: Waits::new(alloc),
+            waits: PendingIndex::new(alloc),
         };
         Ok(Admission { register, alloc })
     }
@@ -209,7 +209,7 @@ impl Admission {
         ensures { result ≡ opened [] writers }
     {
         bound_of(writers);
-        let book = Book {
+        let book = AdmissionTables {
             rows: Vec::new(alloc),
             known: IndexSet::new(alloc),
             admitted: IndexMap::new(alloc),
@@ -221,9 +221,9 @@ impl Admission {
             opening: IndexMap::new(alloc),
             writers,
         };
-        let register = Register {
+        let register = IndexedAdmission {
             book,
-            waits: Waits::new(alloc),
+            waits: PendingIndex::new(alloc),
         };
         Admission { register, alloc }
     }

@@ -6,7 +6,7 @@ ghost use Rattle.protocol_spec.specs.Member.Admission.{assigned_of, deferred_by,
 ghost use Rattle.version_assign.specs.Books.{IsKept, admission_of, placed};
 ghost use Rattle.version_assign.specs.Calls.{origins_of, version_of};
 
-use crate::book::{Book, Row};
+use crate::book::{AdmissionTables, PendingCertificate};
 use crate::excerpt::Candidate;
 use chain_types::ObjectId;
 use digest_core::Digest;
@@ -14,7 +14,7 @@ use protocol_spec::Assigned;
 use wire_bcs::Seq;
 
 /// The certificate that waits at a place.
-fn held_at(rows: &[Option<Row>], place: Option<usize>) -> Option<&Candidate>
+fn held_at(rows: &[Option<PendingCertificate>], place: Option<usize>) -> Option<&Candidate>
     ensures { option_map (λ (h : _). h.now) result ≡ placed rows.now place }
 {
     match place {
@@ -27,7 +27,7 @@ fn held_at(rows: &[Option<Row>], place: Option<usize>) -> Option<&Candidate>
     }
 }
 
-impl Book {
+impl AdmissionTables {
     /// The place of a transaction's certificate, from 0; none exactly if it is not in the sequence.
     fn place_of(&self, tx: &Digest) -> Option<usize>
         ensures { result ≡ position (digest_eq tx.now) self.now.known.keys }

@@ -23,14 +23,14 @@ use wire_bcs::Seq;
 
 /// A certificate that waits, and what its shared inputs would be assigned if nobody had named them before.
 #[derive(Drop)]
-pub(crate) struct Row {
+pub(crate) struct PendingCertificate {
     pub(crate) held: Candidate,
     pub(crate) assigned: Vec<Assigned>,
 }
 
 /// An admitted certificate: the version at which it writes, and the versions of its shared inputs.
 #[derive(Drop)]
-pub(crate) struct Admit {
+pub(crate) struct AdmittedCertificate {
     pub(crate) cert: Excerpt,
     pub(crate) version: u64,
     pub(crate) assigned: Seq<Assigned>,
@@ -39,12 +39,12 @@ pub(crate) struct Admit {
 /// The tables of an admission: certificates in order of arrival, admitted and dropped ones, and a line for each shared
 /// object that one of them named.
 #[derive(Drop)]
-pub(crate) struct Book {
+pub(crate) struct AdmissionTables {
     /// In order of arrival; none if the certificate was admitted or dropped.
-    pub(crate) rows: Vec<Option<Row>>,
+    pub(crate) rows: Vec<Option<PendingCertificate>>,
     /// The digests of all of them, in the same order.
     pub(crate) known: IndexSet<Digest>,
-    pub(crate) admitted: IndexMap<Digest, Admit>,
+    pub(crate) admitted: IndexMap<Digest, AdmittedCertificate>,
     pub(crate) dropped: Vec<Digest>,
     /// How many were admitted before the last mark.
     pub(crate) marked: usize,
@@ -59,7 +59,7 @@ pub(crate) struct Book {
 }
 
 /// Takes the row at a place, if there is one.
-fn take_row(rows: &mut Vec<Option<Row>>, place: usize) -> Option<Row>
+fn take_row(rows: &mut Vec<Option<PendingCertificate>>, place: usize) -> Option<PendingCertificate>
     ensures taken { result ≡ row_at rows.old.items place }
     ensures left { rows.new.items ≡ slice_set rows.old.items place None }
 {
@@ -70,7 +70,7 @@ fn take_row(rows: &mut Vec<Option<Row>>, place: usize) -> Option<Row>
 }
 
 /// Whether no certificate waits at a place.
-fn is_taken(rows: &[Option<Row>], place: usize) -> bool
+fn is_taken(rows: &[Option<PendingCertificate>], place: usize) -> bool
     ensures { result ≡ not (is_some (row_at rows.now place)) }
 {
     match rows.get(place) {
@@ -81,7 +81,10 @@ fn is_taken(rows: &[Option<Row>], place: usize) -> bool
 }
 
 /// The row of the certificate that waits at a place.
-pub(crate) fn row_at(rows: &[Option<Row>], place: usize) -> Option<&Row>
+pub(crate) fn row_at(
+    rows: &[Option<PendingCertificate>],
+    place: usize,
+) -> Option<&PendingCertificate>
     ensures { option_map (λ (r : _). r.now) result ≡ row_at rows.now place }
 {
     match rows.get(place) {
@@ -148,7 +151,7 @@ fn version_within(lacks: bool, greatest: u64) -> Option<u64>
     }
 }
 
-impl Book {
+impl AdmissionTables {
     /// Whether the transaction was admitted.
     #[tactic(auto, using(crate::proofs::Finding::admitted_is))]
     pub(crate) fn is_admitted(&self, tx: &Digest) -> bool
@@ -255,7 +258,7 @@ impl Book {
 
     /// Puts the current versions into a row's assignments, and answers the version at which its transaction writes;
     /// none if it is to be dropped.
-    fn judge(&self, row: &mut Row) -> Option<u64>
+    fn judge(&self, row: &mut PendingCertificate) -> Option<u64>
         ensures held { row.new.held ≡ row.old.held }
         ensures filled { row.new.assigned.items ≡ map (filled self.now.lines.entries) row.old.assigned.items }
         ensures version { result ≡ judged self.now.opening.entries self.now.lines.entries row.old.held.cert row.old.assigned.items }
@@ -267,14 +270,14 @@ impl Book {
     }
 
     /// Admits a certificate at a version.
-    fn admit(&mut self, row: Row, version: u64)
+    fn admit(&mut self, row: PendingCertificate, version: u64)
         requires room { 0 < spare self.old.admitted }
         requires lined { are_lined self.old.lines.entries row.assigned.items ≡ true }
         ensures { Admits self.old self.new row.held row.assigned.items version }
     {
         let tx = *row.held.digest();
         move_lines(&mut self.lines, row.assigned.as_slice(), version, tx);
-        let admit = Admit {
+        let admit = AdmittedCertificate {
             cert: row.held.into_cert(),
             version,
             assigned: Seq::from_vec(row.assigned),
@@ -283,7 +286,7 @@ impl Book {
     }
 
     /// Drops a certificate.
-    fn drop_out(&mut self, row: &Row)
+    fn drop_out(&mut self, row: &PendingCertificate)
         requires { vec_len self.old.dropped < vec_capacity self.old.dropped }
         ensures { Drops self.old self.new row.now.held }
     {
@@ -291,7 +294,7 @@ impl Book {
     }
 
     /// Judges a row that was taken out, and admits or drops its certificate.
-    pub(crate) fn give(&mut self, row: Row)
+    pub(crate) fn give(&mut self, row: PendingCertificate)
         requires admitted { 0 < spare self.old.admitted }
         requires dropped { vec_len self.old.dropped < vec_capacity self.old.dropped }
         requires lined { are_lined self.old.lines.entries row.assigned.items ≡ true }
@@ -305,7 +308,7 @@ impl Book {
     }
 
     /// Takes out the certificate that waits at a place.
-    pub(crate) fn take_out(&mut self, place: usize) -> Row
+    pub(crate) fn take_out(&mut self, place: usize) -> PendingCertificate
         requires there { is_some (row_at self.old.rows.items place) ≡ true }
         requires waits { 0 < self.old.waiting }
         ensures { TakesOut self.old self.new place result }

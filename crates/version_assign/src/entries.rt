@@ -15,7 +15,7 @@ ghost use Rattle.version_assign.specs.Lines.{begun_behind};
 ghost use Rattle.version_assign.specs.Steps.{AddsRow, HasRowRoom, Marks, MakesRoom, clear_each, clear_found, digest_in, IsRowOf};
 
 use crate::begun::all_begun;
-use crate::book::{Admit, Book, Row, push_in_room};
+use crate::book::{AdmissionTables, AdmittedCertificate, PendingCertificate, push_in_room};
 use crate::excerpt::Candidate;
 use crate::lines::{Line, clear_lines, make_lines};
 use crate::taken::Taken;
@@ -39,7 +39,7 @@ fn note_digest(known: &mut IndexSet<Digest>, tx: Digest)
 }
 
 /// Appends a row to a list that has room for it.
-fn push_row(rows: &mut Vec<Option<Row>>, row: Row)
+fn push_row(rows: &mut Vec<Option<PendingCertificate>>, row: PendingCertificate)
     requires { vec_len rows.old < vec_capacity rows.old }
     ensures { rows.new.items ≡ rows.old.items ++ Some row ∷ [] }
 {
@@ -50,7 +50,11 @@ fn push_row(rows: &mut Vec<Option<Row>>, row: Row)
 }
 
 /// Forgets the writers of what the admitted transaction at a place wrote.
-fn clear_at(lines: &mut IndexMap<ObjectId, Line>, admitted: &IndexMap<Digest, Admit>, place: usize)
+fn clear_at(
+    lines: &mut IndexMap<ObjectId, Line>,
+    admitted: &IndexMap<Digest, AdmittedCertificate>,
+    place: usize,
+)
     requires { Each (IsLet lines.old.entries) admitted.now.entries }
     ensures { lines.new.entries ≡ clear_found lines.old.entries (slice_get admitted.now.entries place) }
 {
@@ -62,7 +66,7 @@ fn clear_at(lines: &mut IndexMap<ObjectId, Line>, admitted: &IndexMap<Digest, Ad
 /// Forgets the writers of what was admitted from this place on.
 fn clear_since(
     lines: &mut IndexMap<ObjectId, Line>,
-    admitted: &IndexMap<Digest, Admit>,
+    admitted: &IndexMap<Digest, AdmittedCertificate>,
     from: usize,
 )
     requires { Each (IsLet lines.old.entries) admitted.now.entries }
@@ -74,7 +78,7 @@ fn clear_since(
 }
 
 /// The admitted transaction at a place.
-fn digest_at(admitted: &IndexMap<Digest, Admit>, place: usize) -> Digest
+fn digest_at(admitted: &IndexMap<Digest, AdmittedCertificate>, place: usize) -> Digest
     requires { place < length admitted.now.entries }
     ensures { option_map digest_in (slice_get admitted.now.entries place) ≡ Some result }
 {
@@ -85,7 +89,11 @@ fn digest_at(admitted: &IndexMap<Digest, Admit>, place: usize) -> Digest
 }
 
 /// Lists the transactions that were admitted from this place on; there is room.
-fn list_admitted(list: Vec<Digest>, admitted: &IndexMap<Digest, Admit>, from: usize) -> Vec<Digest>
+fn list_admitted(
+    list: Vec<Digest>,
+    admitted: &IndexMap<Digest, AdmittedCertificate>,
+    from: usize,
+) -> Vec<Digest>
     requires empty { list.items ≡ [] }
     requires room { length admitted.now.entries ≤ from + vec_capacity list }
     ensures { result.items ≡ map digest_in (drop from admitted.now.entries) }
@@ -110,20 +118,20 @@ fn list_dropped(list: Vec<Digest>, dropped: &[Digest], from: usize) -> Vec<Diges
     list
 }
 
-impl Book {
+impl AdmissionTables {
     /// Makes the row of a certificate, with its assignments as if it were the first to name its objects.
     pub(crate) fn row_of(
         &self,
         alloc: Global,
         tx: &Digest,
         cert: &SharedCertificate,
-    ) -> Result<Row, OutOfMemory>
+    ) -> Result<PendingCertificate, OutOfMemory>
         requires { IsKept self.now }
         ensures { IfOk result (λ row. IsRowOf (opening_of self.now) (record { digest = tx.now; cert = cert.now }) row) }
     {
         let assigned = all_begun(alloc, &self.opening, cert.get())?;
         let held = Candidate::of(alloc, tx, cert)?;
-        Ok(Row { held, assigned })
+        Ok(PendingCertificate { held, assigned })
     }
 
     /// Makes room for one more row: after it nothing that waits can be refused memory.
@@ -141,8 +149,8 @@ impl Book {
         make_lines(&mut self.lines, assigned)
     }
 
-    /// Adds a row for which [`Book::make_room`] made room.
-    pub(crate) fn add_row(&mut self, row: Row)
+    /// Adds a row for which [`AdmissionTables::make_room`] made room.
+    pub(crate) fn add_row(&mut self, row: PendingCertificate)
         requires room { HasRowRoom self.old row.assigned.items }
         requires new { list_any (λ d. digest_eq row.held.digest d) self.old.known.keys ≡ false }
         ensures { AddsRow self.old self.new row }

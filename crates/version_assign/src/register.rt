@@ -12,9 +12,9 @@ ghost use Rattle.version_assign.specs.Lines.{begun_behind};
 ghost use Rattle.version_assign.specs.Registers.{IsWhole};
 ghost use Rattle.version_assign.specs.Steps.{HasRowRoom, is_free_one};
 
-use crate::book::{Book, Row};
+use crate::book::{AdmissionTables, PendingCertificate};
 use crate::taken::Taken;
-use crate::waits::Waits;
+use crate::waits::PendingIndex;
 use digest_core::Digest;
 use protocol_spec::SharedCertificate;
 use std::alloc::Global;
@@ -22,12 +22,12 @@ use wire_bcs::OutOfMemory;
 
 /// The tables of an admission, and the wait lists that find the certificates that may be free.
 #[derive(Drop)]
-pub(crate) struct Register {
-    pub(crate) book: Book,
-    pub(crate) waits: Waits,
+pub(crate) struct IndexedAdmission {
+    pub(crate) book: AdmissionTables,
+    pub(crate) waits: PendingIndex,
 }
 
-impl Register {
+impl IndexedAdmission {
     /// Admits or drops the certificate at a place, if one waits, which is free.
     fn take(&mut self, place: usize)
         requires kept { IsWhole self.old }
@@ -51,7 +51,7 @@ impl Register {
         }
     }
 
-    /// [`Register::settle`], and then skips the places at the start at which nothing waits any more.
+    /// [`IndexedAdmission::settle`], and then skips the places at the start at which nothing waits any more.
     fn settle_all(&mut self)
         requires { IsWhole self.old }
         ensures kept { IsWhole self.new }
@@ -78,7 +78,7 @@ impl Register {
     }
 
     /// Adds a row, for which there is room, and files it among those that may be free.
-    fn add_row(&mut self, row: Row)
+    fn add_row(&mut self, row: PendingCertificate)
         requires kept { IsWhole self.old }
         requires room { HasRowRoom self.old.book row.assigned.items }
         requires shaped { shape_fault row.held.cert.tx ≡ None }
@@ -98,7 +98,12 @@ impl Register {
     }
 
     /// Takes the entry of a certificate, for which there is room, and all that is free then.
-    fn enter(&mut self, row: Row, admitted: Vec<Digest>, dropped: Vec<Digest>) -> Taken
+    fn enter(
+        &mut self,
+        row: PendingCertificate,
+        admitted: Vec<Digest>,
+        dropped: Vec<Digest>,
+    ) -> Taken
         requires kept { IsWhole self.old }
         requires room { HasRowRoom self.old.book row.assigned.items }
         requires shaped { shape_fault row.held.cert.tx ≡ None }

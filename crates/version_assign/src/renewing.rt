@@ -7,15 +7,15 @@ ghost use Rattle.version_assign.specs.Books.{IsKept, shown};
 ghost use Rattle.version_assign.specs.Changes.{IsOwn, Renews};
 ghost use Rattle.version_assign.specs.Registers.{IsWhole};
 
-use crate::book::Book;
+use crate::book::AdmissionTables;
 use crate::changes::{Change, change_all};
-use crate::register::Register;
-use crate::waits::Waits;
+use crate::register::IndexedAdmission;
+use crate::waits::PendingIndex;
 use indexmap::{IndexMap, IndexSet};
 use std::alloc::Global;
 use wire_bcs::OutOfMemory;
 
-impl Book {
+impl AdmissionTables {
     /// Empties all tables but the opening and the limit of writers: the epoch before its first entry.
     pub(crate) fn clear(&mut self, alloc: Global)
         requires { IsKept self.old }
@@ -34,7 +34,7 @@ impl Book {
     }
 }
 
-impl Book {
+impl AdmissionTables {
     /// Empties the tables and applies these changes to the opening: the next epoch before its first entry. After a
     /// refusal only some of the changes are applied.
     fn renew(&mut self, alloc: Global, changes: &[Change]) -> Result<(), OutOfMemory>
@@ -53,7 +53,7 @@ impl Book {
     }
 }
 
-impl Register {
+impl IndexedAdmission {
     /// Empties the tables and applies these changes to the opening: the next epoch before its first entry. After a
     /// refusal only some of the changes are applied.
     #[tactic(auto, using(crate::proofs::Registering::nothing_filed))]
@@ -64,7 +64,7 @@ impl Register {
         ensures value { OnOk result (Renews (shown self.old.book) (shown self.new.book) changes.now) }
         ensures limit { self.new.book.writers ≡ self.old.book.writers }
     {
-        self.waits = Waits::new(alloc);
+        self.waits = PendingIndex::new(alloc);
         self.book.renew(alloc, changes)
     }
 
@@ -76,6 +76,6 @@ impl Register {
         ensures value { shown self.new.book ≡ record (shown self.old.book) { admission = nothing_admitted } }
     {
         self.book.clear(alloc);
-        self.waits = Waits::new(alloc);
+        self.waits = PendingIndex::new(alloc);
     }
 }

@@ -6,12 +6,12 @@ ghost use Rattle.std.specs.BTreeSet.{contains};
 ghost use Rattle.chain_types.specs.declared.objects.ObjectId.{ObjectId as Id};
 ghost use Rattle.protocol_spec.specs.Chain.Tests.{has_id};
 ghost use Rattle.protocol_spec.specs.Member.Admission.{is_free, mutable_ids};
-ghost use Rattle.version_assign.specs.declared.book.Book.{Book as B};
+ghost use Rattle.version_assign.specs.declared.book.AdmissionTables.{AdmissionTables as B};
 ghost use Rattle.version_assign.specs.Books.{AreLines, IsKept, IsSkipped, admission_of, opening_of, placed, row_at, shown};
 ghost use Rattle.version_assign.specs.Steps.{TakesOut, is_free_one};
 ghost use Rattle.version_assign.specs.Waiting.{Aside, Frees, Grows, IsFiled, IsFiledIn, Opens, OpensFound, OpensSince, Passes, Rests, TurnsOn, admits_also, admits_in, is_awake, is_under, none_open, or_one_of, room_in, wrote_one, writes_at};
 
-use crate::book::{Book, Row, row_at};
+use crate::book::{AdmissionTables, PendingCertificate, row_at};
 use crate::excerpt::Candidate;
 use crate::shelf::{add_place, pop_place, take_places};
 use chain_types::ObjectId;
@@ -25,8 +25,8 @@ use std::collections::BTreeSet;
 /// limit. When an object has room for one more writer, the first of its queue goes to those that may be free; when
 /// that one is taken or put aside, the next follows. A place may be filed longer than its certificate waits.
 #[derive(Drop)]
-pub(crate) struct Waits {
-    /// False once a list was refused memory, until [`Waits::mend`]: then the lists are not complete, and each
+pub(crate) struct PendingIndex {
+    /// False once a list was refused memory, until [`PendingIndex::mend`]: then the lists are not complete, and each
     /// certificate that waits is looked at.
     pub(crate) whole: bool,
     /// The places of those that may be free.
@@ -51,14 +51,14 @@ fn is_one_of(ids: &[ObjectId], id: &ObjectId) -> bool
 }
 
 /// Whether the certificate writes the object.
-fn writes_row(row: &Row, id: &ObjectId) -> bool
+fn writes_row(row: &PendingCertificate, id: &ObjectId) -> bool
     ensures { result ≡ has_id (mutable_ids row.now.held.cert) id.now }
 {
     is_one_of(row.held.writes(), id)
 }
 
 /// Whether a certificate waits at the place, and writes the object.
-fn writes_at(rows: &[Option<Row>], place: usize, id: &ObjectId) -> bool
+fn writes_at(rows: &[Option<PendingCertificate>], place: usize, id: &ObjectId) -> bool
     ensures { result ≡ writes_at rows.now place id.now }
 {
     match row_at(rows, place) {
@@ -67,10 +67,10 @@ fn writes_at(rows: &[Option<Row>], place: usize, id: &ObjectId) -> bool
     }
 }
 
-impl Waits {
+impl PendingIndex {
     /// Empty lists. Takes no memory.
-    pub(crate) fn new(alloc: Global) -> Waits {
-        Waits {
+    pub(crate) fn new(alloc: Global) -> PendingIndex {
+        PendingIndex {
             whole: true,
             awake: BTreeSet::new(alloc),
             behind: IndexMap::new(alloc),
@@ -93,7 +93,7 @@ impl Waits {
 
     /// If memory was refused before, puts every place from the first waiting one on among those that may be free: then
     /// the lists are complete again, unless memory is refused now too.
-    pub(crate) fn mend(&mut self, book: &Book)
+    pub(crate) fn mend(&mut self, book: &AdmissionTables)
         requires { IsSkipped book.now.low book.now.rows.items }
         ensures { IsFiledIn book.now self.old → IsFiledIn book.now self.new }
     {
@@ -150,7 +150,7 @@ impl Waits {
 
     /// Moves the first place in the queue of an object to those that may be free. Places whose certificates no longer
     /// wait, or do not write the object, are dropped on the way.
-    fn wake_next(&mut self, rows: &[Option<Row>], id: &ObjectId)
+    fn wake_next(&mut self, rows: &[Option<PendingCertificate>], id: &ObjectId)
         ensures { TurnsOn rows.now self.old self.new id.now }
     {
         while let Some(place) = pop_place(&mut self.queues, &id.0) {
@@ -161,8 +161,8 @@ impl Waits {
         }
     }
 
-    /// [`Waits::wake_next`] for an object that has room for one more writer.
-    fn open_one(&mut self, book: &Book, id: &ObjectId)
+    /// [`PendingIndex::wake_next`] for an object that has room for one more writer.
+    fn open_one(&mut self, book: &AdmissionTables, id: &ObjectId)
         requires { AreLines book.now.writers (opening_of book.now) (admission_of book.now) book.now.lines.entries }
         ensures { (rest : _) → Opens book.now.rows.items (room_in book.now) self.old self.new (id.now ∷ rest) rest }
     {
@@ -171,8 +171,8 @@ impl Waits {
         }
     }
 
-    /// [`Waits::open_one`] for each of these objects.
-    pub(crate) fn open_all(&mut self, book: &Book, ids: &[ObjectId])
+    /// [`PendingIndex::open_one`] for each of these objects.
+    pub(crate) fn open_all(&mut self, book: &AdmissionTables, ids: &[ObjectId])
         requires { AreLines book.now.writers (opening_of book.now) (admission_of book.now) book.now.lines.entries }
         ensures { Opens book.now.rows.items (room_in book.now) self.old self.new ids.now [] }
     {
@@ -192,7 +192,7 @@ impl Waits {
 
     /// Files a certificate that is not free under its first missing origin, or in the queue of the first object that
     /// is full.
-    fn file(&mut self, book: &Book, place: usize, held: &Candidate)
+    fn file(&mut self, book: &AdmissionTables, place: usize, held: &Candidate)
         requires { IsKept book.now }
         ensures kept { Grows self.old self.new }
         ensures filed { self.new.whole ≡ true → is_free book.now.writers (admission_of book.now) held.now ≡ false → Aside self.new (admits_in book.now) (room_in book.now) place held.now.cert }
@@ -209,7 +209,7 @@ impl Waits {
 
     /// Files the certificate at a place, which is not free, and opens the queues of what it writes: so that the next
     /// in them does not wait for this one.
-    fn put_aside(&mut self, book: &Book, place: usize)
+    fn put_aside(&mut self, book: &AdmissionTables, place: usize)
         requires kept { IsKept book.now }
         requires waits { is_free_one (shown book.now) (placed book.now.rows.items (Some place)) ≡ false }
         ensures { IsFiledIn book.now self.old → IsFiledIn book.now self.new }
@@ -226,7 +226,7 @@ impl Waits {
 
     /// The first place at which a free certificate waits. Each round puts one aside, so there are no more of them than
     /// rows.
-    pub(crate) fn next_free(&mut self, book: &Book) -> Option<usize>
+    pub(crate) fn next_free(&mut self, book: &AdmissionTables) -> Option<usize>
         requires kept { IsKept book.now }
         requires filed { IsFiledIn book.now self.old }
         ensures filed { IsFiledIn book.now self.new }
@@ -251,7 +251,7 @@ impl Waits {
 
     /// Notes that the certificate at a place was taken out: whatever waits for its transaction may be free, and so may
     /// the next in the queue of each object that it writes.
-    pub(crate) fn release(&mut self, book: &Book, place: usize, held: &Candidate)
+    pub(crate) fn release(&mut self, book: &AdmissionTables, place: usize, held: &Candidate)
         requires { AreLines book.now.writers (opening_of book.now) (admission_of book.now) book.now.lines.entries }
         ensures { (before : B) (row : _) → held.now ≡ row.held → TakesOut before book.now place row → IsFiledIn before self.old → IsFiled book.now.rows.items self.new (admits_also (admits_in book.now) held.now.digest) (room_in book.now) none_open }
     {
@@ -260,8 +260,8 @@ impl Waits {
         self.open_all(book, held.writes());
     }
 
-    /// [`Waits::open_all`] for the objects that the admitted transaction at a place writes.
-    fn open_at(&mut self, book: &Book, place: usize)
+    /// [`PendingIndex::open_all`] for the objects that the admitted transaction at a place writes.
+    fn open_at(&mut self, book: &AdmissionTables, place: usize)
         requires { AreLines book.now.writers (opening_of book.now) (admission_of book.now) book.now.lines.entries }
         ensures { OpensFound book.now.rows.items (room_in book.now) self.old self.new (slice_get book.now.admitted.entries place) }
     {
@@ -270,9 +270,9 @@ impl Waits {
         }
     }
 
-    /// [`Waits::open_at`] for each transaction admitted from this place on: after a mark, which counts their writers
+    /// [`PendingIndex::open_at`] for each transaction admitted from this place on: after a mark, which counts their writers
     /// anew.
-    pub(crate) fn open_since(&mut self, book: &Book, from: usize)
+    pub(crate) fn open_since(&mut self, book: &AdmissionTables, from: usize)
         requires { AreLines book.now.writers (opening_of book.now) (admission_of book.now) book.now.lines.entries }
         ensures { OpensSince book.now.rows.items (room_in book.now) self.old self.new (drop from book.now.admitted.entries) [] }
     {

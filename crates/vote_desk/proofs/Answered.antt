@@ -9,7 +9,7 @@ use Rattle.protocol_spec.specs.declared.refusals.VoteRefusal.TheVariants as no_v
 use Rattle.validator_core.specs.Calls.{vote_ended}
 use Rattle.validator_core.specs.Seats.{answered}
 use Rattle.vote_desk.specs.declared.entry.DeskEntry.{DeskEntry}
-use Rattle.vote_desk.specs.declared.standing.Standing.{Standing}
+use Rattle.vote_desk.specs.declared.standing.DeskView.{DeskView}
 use Rattle.vote_desk.specs.Callers.{AreAnswered, is_starved, is_starved_call}
 use Rattle.vote_desk.specs.Histories.{IsHistory, IsLegal}
 use Rattle.vote_desk.specs.Votes.{Accepts, Follows, FollowsUnder, Replies, standing}
@@ -18,10 +18,10 @@ use Rattle.vote_desk.specs.Votes.{Accepts, Follows, FollowsUnder, Replies, stand
 
 module _ {S : Type 0} (accepts : S → Signer → List ℕ → Digest → Bool) where
   -- what stands behind a desk, with the accepted seals in place of the sealer
-  abbrev under : Standing S → Standing Accepts
+  abbrev under : DeskView S → DeskView Accepts
   under s = standing s.validator (accepts s.sealer) s.faults s.lists
 
-  replies-under : (s : Standing S) (bytes : List ℕ) (reply : Result Sent VoteRefusal) → Replies accepts s bytes reply → Replies (λ (a : Accepts). a) (under s) bytes reply
+  replies-under : (s : DeskView S) (bytes : List ℕ) (reply : Result Sent VoteRefusal) → Replies accepts s bytes reply → Replies (λ (a : Accepts). a) (under s) bytes reply
   replies-under s bytes (Ok v) is = is
   replies-under s bytes (Err no_vote.KeepFault) is = is
   replies-under s bytes (Err no_vote.OutOfMemory) is = is
@@ -41,7 +41,7 @@ module _ {S : Type 0} (accepts : S → Signer → List ℕ → Digest → Bool) 
   replies-under s bytes (Err (no_vote.PoorGas had want)) is = is
   replies-under s bytes (Err (no_vote.Locked key by)) is = is
 
-  follows-under : (before : Standing S) (entry : DeskEntry) (after : Standing S) → Follows accepts before entry after → FollowsUnder (under before) entry (under after)
+  follows-under : (before : DeskView S) (entry : DeskEntry) (after : DeskView S) → Follows accepts before entry after → FollowsUnder (under before) entry (under after)
   follows-under before entry after is = record {
     reply = replies-under before entry.bytes entry.reply is.reply;
     state = is.state;
@@ -52,11 +52,11 @@ module _ {S : Type 0} (accepts : S → Signer → List ℕ → Digest → Bool) 
     kept = is.kept;
   }
 
-  history-under : (from to : Standing S) (entries : List DeskEntry) → IsHistory (Follows accepts) from entries to → IsHistory FollowsUnder (under from) entries (under to)
+  history-under : (from to : DeskView S) (entries : List DeskEntry) → IsHistory (Follows accepts) from entries to → IsHistory FollowsUnder (under from) entries (under to)
   history-under from to [] is = ap under is
   history-under from to (entry ∷ entries) is = (under is.0, follows-under from entry is.0 is.1, history-under is.0 to entries is.2)
 
-  pub legal_under : (from to : Standing S) (entries : List DeskEntry) → IsHistory (Follows accepts) from entries to → IsLegal FollowsUnder (under from) entries
+  pub legal_under : (from to : DeskView S) (entries : List DeskEntry) → IsHistory (Follows accepts) from entries to → IsLegal FollowsUnder (under from) entries
   legal_under from to entries is = (under to, history-under from to entries is)
 
   -- ---- no fault of the keeper
@@ -82,8 +82,8 @@ module _ {S : Type 0} (accepts : S → Signer → List ℕ → Digest → Bool) 
   answered-where (Err (no_vote.Locked key by)) never fed = refl
 
   -- a count of faults that ends at 0 was 0 all along
-  low : (from to : Standing S) (entries : List DeskEntry) → IsHistory (Follows accepts) from entries to → to.faults ≡ 0 → from.faults ≡ 0
-  low from to [] is none = sym (ap (λ (s : Standing S). s.faults) is) ∙ none
+  low : (from to : DeskView S) (entries : List DeskEntry) → IsHistory (Follows accepts) from entries to → to.faults ≡ 0 → from.faults ≡ 0
+  low from to [] is none = sym (ap (λ (s : DeskView S). s.faults) is) ∙ none
   low from to (entry ∷ entries) is none =
       let next = low is.0 to entries is.2 none in let count = is.1.count in let later = is.1.later in omega (arith, next, count, later)
 
@@ -91,7 +91,7 @@ module _ {S : Type 0} (accepts : S → Signer → List ℕ → Digest → Bool) 
   neither true b is = absurd (cc)
   neither false b is = (refl, is)
 
-  pub all_answered : (from to : Standing S) (entries : List DeskEntry) → IsHistory (Follows accepts) from entries to → to.faults ≡ 0 → list_any is_starved_call entries ≡ false → AreAnswered entries
+  pub all_answered : (from to : DeskView S) (entries : List DeskEntry) → IsHistory (Follows accepts) from entries to → to.faults ≡ 0 → list_any is_starved_call entries ≡ false → AreAnswered entries
   all_answered from to [] is none fed = tt
   all_answered from to (entry ∷ entries) is none fed =
       let both = neither (is_starved_call entry) (list_any is_starved_call entries) fed in

@@ -13,12 +13,12 @@ use Rattle.protocol_spec.specs.Member.Calls.{Call, called}
 use Rattle.world_spec.specs.Seats.{Seated}
 use Rattle.validator_core.specs.Calls.{Votes}
 use Rattle.validator_core.specs.Seats.{Behaves, Ended, answered, fell}
-use Rattle.vote_desk.specs.declared.bench.Bench.{Bench}
+use Rattle.vote_desk.specs.declared.bench.MemberClerk.{MemberClerk}
 use Rattle.vote_desk.specs.declared.desk.Desk.{Desk}
 use Rattle.vote_desk.specs.declared.desk.DeskPass.{DeskPass}
 use Rattle.vote_desk.specs.declared.entry.Asked.{Asked}
 use Rattle.vote_desk.specs.declared.entry.DeskEntry.{DeskEntry}
-use Rattle.vote_desk.specs.declared.standing.Standing.{Standing}
+use Rattle.vote_desk.specs.declared.standing.DeskView.{DeskView}
 use Rattle.vote_desk.specs.declared.view.View.{View}
 use Rattle.vote_desk.specs.Histories.{IsFront, IsHistory}
 use Rattle.vote_desk.specs.Passes as passes
@@ -27,7 +27,7 @@ use Rattle.vote_desk.specs.Desks.{Asks, mine, opening, seen, state_of}
 
 -- ---- the member
 
-pub replies : {S : Type 0} (accepts : S → Signer → List ℕ → Digest → Bool) (s : Standing S) (bytes : List ℕ) (reply : Result Sent VoteRefusal) → Votes (accepts s.sealer) s.validator.member (said accepts s bytes) reply
+pub replies : {S : Type 0} (accepts : S → Signer → List ℕ → Digest → Bool) (s : DeskView S) (bytes : List ℕ) (reply : Result Sent VoteRefusal) → Votes (accepts s.sealer) s.validator.member (said accepts s bytes) reply
     → (IsErrOf reply no_vote.KeepFault → is_some (due accepts s bytes) ≡ true) → (IsErrOf reply no_vote.OutOfMemory → (s.validator.up ≡ true) × (fork_of s.validator.state ≡ None)) → Replies accepts s bytes reply
 replies accepts s bytes (Ok v) is owed able = is
 replies accepts s bytes (Err no_vote.KeepFault) is owed able = owed refl
@@ -69,13 +69,13 @@ pub same_mine : {S E : Type 0} (v w : View S E) → v ≡ w → v.mine ≡ w.min
 same_mine v w is = ap (λ (u : View _ _). u.mine) is
 
 -- calls leave the sealer
-pub sealer_stays : {S : Type 0} (accepts : S → Signer → List ℕ → Digest → Bool) (old new : Standing S) (entries : List DeskEntry) → IsHistory (Follows accepts) old entries new → new.sealer ≡ old.sealer
-sealer_stays accepts old new [] is = ap (λ (s : Standing _). s.sealer) is
+pub sealer_stays : {S : Type 0} (accepts : S → Signer → List ℕ → Digest → Bool) (old new : DeskView S) (entries : List DeskEntry) → IsHistory (Follows accepts) old entries new → new.sealer ≡ old.sealer
+sealer_stays accepts old new [] is = ap (λ (s : DeskView _). s.sealer) is
 sealer_stays accepts old new (entry ∷ entries) is = sealer_stays accepts is.0 new entries is.2 ∙ is.1.sealer
 
 module _ {D S : Type 0} {k : Keeping D} {z : Sealing S} where
-  pub opening_is : (desk : Desk D S k z) (bench : Bench D S k z) → passes.opened desk.serial ≡ bench → opening desk ≡ state_of bench
-  opening_is desk bench is = ap (λ (b : Bench D S k z). state_of b) is
+  pub opening_is : (desk : Desk D S k z) (bench : MemberClerk D S k z) → passes.opened desk.serial ≡ bench → opening desk ≡ state_of bench
+  opening_is desk bench is = ap (λ (b : MemberClerk D S k z). state_of b) is
 
   pub asks_of : (desk : Desk D S k z) (old new : DeskPass D S k z) (bytes : List ℕ) (asked : Asked) (reply : Result Sent VoteRefusal) → asked.bytes ≡ bytes
       → passes.Calls (Follows z.accepts) state_of (λ entry asked reply. (entry.bytes ≡ asked.bytes) × (entry.reply ≡ reply)) desk.serial (passes.view old.pass) (passes.view new.pass) asked reply → Asks desk old new bytes reply
@@ -89,15 +89,15 @@ module _ {D S : Type 0} {k : Keeping D} {z : Sealing S} where
         faults = c.entry.faults;
         after = c.after;
         made = subst (λ (e : DeskEntry). Follows z.accepts c.left e c.after) is c.made;
-        saw = ap (λ (v : View (Standing S) DeskEntry). v.seen) c.view ∙ ap (λ (e : DeskEntry). c.before ++ e ∷ []) is;
-        places = ap (λ (v : View (Standing S) DeskEntry). v.mine) c.view;
+        saw = ap (λ (v : View (DeskView S) DeskEntry). v.seen) c.view ∙ ap (λ (e : DeskEntry). c.before ++ e ∷ []) is;
+        places = ap (λ (v : View (DeskView S) DeskEntry). v.mine) c.view;
       }
 
   pub waited_of : (old new : DeskPass D S k z) → passes.Waits (passes.view old.pass) (passes.view new.pass) → IsFront (seen old) (seen new) × (mine new ≡ mine old)
-  waited_of old new w = (subst (IsFront (seen old)) (sym (ap (λ (v : View (Standing S) DeskEntry). v.seen) w.view)) w.front, ap (λ (v : View (Standing S) DeskEntry). v.mine) w.view)
+  waited_of old new w = (subst (IsFront (seen old)) (sym (ap (λ (v : View (DeskView S) DeskEntry). v.seen) w.view)) w.front, ap (λ (v : View (DeskView S) DeskEntry). v.mine) w.view)
 
   -- what a desk is closed with
-  pub closed_of : (desk : Desk D S k z) (bench : Bench D S k z) (entries : List DeskEntry) → IsHistory (Follows z.accepts) (opening desk) entries (state_of bench)
+  pub closed_of : (desk : Desk D S k z) (bench : MemberClerk D S k z) (entries : List DeskEntry) → IsHistory (Follows z.accepts) (opening desk) entries (state_of bench)
       → IsHistory (Follows z.accepts) (opening desk) entries (standing bench.validator (opening desk).sealer (k.failed bench.keeper) (k.lists bench.keeper))
   closed_of desk bench entries is =
       subst (λ (s : S). IsHistory (Follows z.accepts) (opening desk) entries (standing bench.validator s (k.failed bench.keeper) (k.lists bench.keeper)))

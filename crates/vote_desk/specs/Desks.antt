@@ -4,24 +4,24 @@ use Rattle.outside.specs.declared.keeper.Keeper.{Ghosts as Keeping}
 use Rattle.quorum_core.specs.declared.sealer.Checker.{Ghosts as Sealing}
 use Rattle.protocol_spec.specs.declared.answers.Voted.{Voted}
 use Rattle.protocol_spec.specs.declared.refusals.VoteRefusal.{VoteRefusal}
-use Rattle.vote_desk.specs.declared.bench.Bench.{Bench}
+use Rattle.vote_desk.specs.declared.bench.MemberClerk.{MemberClerk}
 use Rattle.vote_desk.specs.declared.desk.Desk.{Desk}
 use Rattle.vote_desk.specs.declared.desk.DeskPass.{DeskPass}
 use Rattle.vote_desk.specs.declared.desk.DeskRefusal.{DeskRefusal}
 use Rattle.vote_desk.specs.declared.desk.DeskRefusal.TheVariants as no_answer
 use Rattle.vote_desk.specs.declared.entry.DeskEntry.{DeskEntry}
-use Rattle.vote_desk.specs.declared.standing.Standing.{Standing}
+use Rattle.vote_desk.specs.declared.standing.DeskView.{DeskView}
 use Rattle.vote_desk.specs.Histories.{IsFront, IsHistory}
 use Rattle.vote_desk.specs.Passes as passes
 use Rattle.vote_desk.specs.Votes.{Follows, standing}
 
 module _ {D S : Type 0} {k : Keeping D} {z : Sealing S} where
   -- what contracts see of what stands behind a desk
-  abbrev pub state_of : Bench D S k z → Standing S
+  abbrev pub state_of : MemberClerk D S k z → DeskView S
   state_of bench = standing bench.validator bench.sealer (k.failed bench.keeper) (k.lists bench.keeper)
 
   -- what stood behind the desk as it was opened, the same for all passes
-  abbrev pub opening : Desk D S k z → Standing S
+  abbrev pub opening : Desk D S k z → DeskView S
   opening desk = passes.opening state_of desk.serial
 
   -- the pass's share of the desk, what it has seen of the history, and the places of its own calls in it
@@ -42,10 +42,10 @@ module _ {D S : Type 0} {k : Keeping D} {z : Sealing S} where
   pub record Asks (desk : Desk D S k z) (old new : DeskPass D S k z) (bytes : List ℕ) (reply : Result Voted VoteRefusal) : Type 0 where
     pub before : List DeskEntry
     pub front : IsFront (seen old) before
-    pub left : Standing S
+    pub left : DeskView S
     pub history : IsHistory (Follows z.accepts) (opening desk) before left
     pub faults : ℕ
-    pub after : Standing S
+    pub after : DeskView S
     pub made : Follows z.accepts left (record { bytes = bytes; reply = reply; faults = faults }) after
     pub saw : seen new ≡ before ++ record { bytes = bytes; reply = reply; faults = faults } ∷ []
     pub places : mine new ≡ mine old ++ length before ∷ []

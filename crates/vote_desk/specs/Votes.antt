@@ -15,35 +15,35 @@ use Rattle.world_spec.specs.Seats.{Seated, due_at, rules_of_seat}
 use Rattle.validator_core.specs.Calls.{IsSealedBy, vote_ended, vote_said}
 use Rattle.validator_core.specs.Seats.{Behaves, Journaled}
 use Rattle.vote_desk.specs.declared.entry.DeskEntry.{DeskEntry}
-use Rattle.vote_desk.specs.declared.standing.Standing.{Standing}
+use Rattle.vote_desk.specs.declared.standing.DeskView.{DeskView}
 
 module _ {S : Type 0} where
   -- a member, its sealer, the keeper's count of faults, and the keeper's lists if they are observable
-  abbrev pub standing : Seated → S → ℕ → Option Journals → Standing S
+  abbrev pub standing : Seated → S → ℕ → Option Journals → DeskView S
   standing validator sealer faults lists = record { validator = validator; sealer = sealer; faults = faults; lists = lists }
 
 -- `accepts` says of a sealer which seals it accepts
 module _ {S : Type 0} (accepts : S → Signer → List ℕ → Digest → Bool) where
   -- the rules of the member, over the sealer
-  abbrev pub rules : Standing S → Rules
+  abbrev pub rules : DeskView S → Rules
   rules s = rules_of_seat s.validator (accepts s.sealer)
 
   -- what the member answers to these bytes, and the record that is due
-  abbrev pub said : Standing S → List ℕ → Result Voted VoteRefusal
+  abbrev pub said : DeskView S → List ℕ → Result Voted VoteRefusal
   said s bytes = vote_said (rules s) s.validator bytes
 
-  abbrev pub due : Standing S → List ℕ → Option Record
+  abbrev pub due : DeskView S → List ℕ → Option Record
   due s bytes = due_at (rules s) s.validator (votes bytes)
 
   -- a reply is the member's answer, under its seal. A fault of the keeper may stand instead if a record is due, and running out of memory if the member is up and met no fork
-  abbrev pub Replies : Standing S → List ℕ → Result Sent VoteRefusal → Type 0
+  abbrev pub Replies : DeskView S → List ℕ → Result Sent VoteRefusal → Type 0
   Replies s bytes (Ok v) = (said s bytes ≡ Ok (record { statement = v.sealed.statement; fresh = v.fresh })) × IsSealedBy (accepts s.sealer) s.validator.member v.sealed
   Replies s bytes (Err no_vote.KeepFault) = is_some (due s bytes) ≡ true
   Replies s bytes (Err no_vote.OutOfMemory) = (s.validator.up ≡ true) × (fork_of s.validator.state ≡ None)
   Replies s bytes (Err refusal) = said s bytes ≡ Err refusal
 
   -- one call, from what stood before it to what stands after it
-  pub record Follows (before : Standing S) (entry : DeskEntry) (after : Standing S) : Type 0 where
+  pub record Follows (before : DeskView S) (entry : DeskEntry) (after : DeskView S) : Type 0 where
     pub reply : Replies before entry.bytes entry.reply
     -- the member is as the definition leaves it; after a fault of the keeper and running out of memory it is down
     pub state : Behaves (rules before) (votes entry.bytes) before.validator after.validator (vote_ended entry.reply)
@@ -60,5 +60,5 @@ abbrev pub Accepts : Type 0
 Accepts = Signer → List ℕ → Digest → Bool
 
 -- one call at a desk whose sealer is given only by the seals that it accepts
-abbrev pub FollowsUnder : Standing Accepts → DeskEntry → Standing Accepts → Type 0
+abbrev pub FollowsUnder : DeskView Accepts → DeskEntry → DeskView Accepts → Type 0
 FollowsUnder = Follows (λ accepts. accepts)

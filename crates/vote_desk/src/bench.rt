@@ -4,7 +4,7 @@ ghost use Rattle.std.specs.Prelude.{◌≡◌, ◌<◌};
 
 use crate::clerk::Clerk;
 use crate::entry::{Asked, DeskEntry};
-use crate::standing::Standing;
+use crate::standing::DeskView;
 use outside::Keeper;
 use protocol_spec::{VoteRefusal, Voted};
 use quorum_core::Sealer;
@@ -12,14 +12,14 @@ use validator_core::Validator;
 
 /// A member with its keeper and its sealer, which votes as it is asked.
 #[derive(Drop)]
-pub struct Bench<D: Keeper + Drop, S: Sealer + Drop> {
+pub struct MemberClerk<D: Keeper + Drop, S: Sealer + Drop> {
     pub(crate) validator: Validator,
     pub(crate) keeper: D,
     pub(crate) sealer: S,
     ghost known: { validator.member < D.width keeper },
 }
 
-impl<D: Keeper + Drop, S: Sealer + Drop> Clerk for Bench<D, S> {
+impl<D: Keeper + Drop, S: Sealer + Drop> Clerk for MemberClerk<D, S> {
     ghost use Rattle.vote_desk.specs.Votes.{Follows, standing};
 
     type Request = Asked;
@@ -28,7 +28,7 @@ impl<D: Keeper + Drop, S: Sealer + Drop> Clerk for Bench<D, S> {
 
     type Entry = DeskEntry;
 
-    type State = Standing<S>;
+    type State = DeskView<S>;
 
     ghost state = { λ bench. standing bench.validator bench.sealer (D.failed bench.keeper) (D.lists bench.keeper) };
 

@@ -2,7 +2,7 @@
 
 ghost use Rattle.std.specs.Prelude.{◌≡◌, ℕ, ◌+◌, ◌-◌, ◌<◌, ◌≤◌, [], IfOk, IfErr, length};
 
-use crate::bench::Bench;
+use crate::bench::MemberClerk;
 use crate::entry::{Asked, DeskEntry};
 use crate::serial::{Pass, SerialDesk};
 use outside::Keeper;
@@ -26,14 +26,14 @@ pub enum DeskRefusal {
 #[derive(Drop)]
 pub struct Desk<D: Keeper + Drop, S: Sealer + Drop> {
     alloc: Global,
-    serial: SerialDesk<Bench<D, S>>,
+    serial: SerialDesk<MemberClerk<D, S>>,
 }
 
 /// A caller's right to ask at a vote desk. It has no bytes. Contracts see its share of the desk, what it has seen of the
 /// history, and which of its places are its own.
 #[derive(Drop)]
 pub struct DeskPass<D: Keeper + Drop, S: Sealer + Drop> {
-    pass: Pass<Bench<D, S>>,
+    pass: Pass<MemberClerk<D, S>>,
 }
 
 impl<D: Keeper + Drop, S: Sealer + Drop> Desk<D, S> {
@@ -60,7 +60,7 @@ impl<D: Keeper + Drop, S: Sealer + Drop> Desk<D, S> {
         ensures mine { IfOk result (λ made. mine made.1 ≡ []) }
         ensures err { IfErr result (λ back. back ≡ (validator, keeper)) }
     {
-        let bench = Bench {
+        let bench = MemberClerk {
             validator,
             keeper,
             sealer,
@@ -68,7 +68,7 @@ impl<D: Keeper + Drop, S: Sealer + Drop> Desk<D, S> {
         match SerialDesk::open(alloc, bench) {
             Ok((serial, pass)) => Ok((Desk { alloc, serial }, DeskPass { pass })),
             Err(
-                Bench {
+                MemberClerk {
                     validator,
                     keeper,
                     sealer: _,
@@ -148,7 +148,7 @@ impl<D: Keeper + Drop, S: Sealer + Drop> Desk<D, S> {
         ensures mine { (place : ℕ) → place < length result.2 → times place (mine pass) ≡ 1 }
     {
         let (bench, history) = self.serial.close(pass.pass);
-        let Bench {
+        let MemberClerk {
             validator,
             keeper,
             sealer: _,

@@ -31,6 +31,6 @@ pub use clerk::Clerk;
 pub use desk::{Desk, DeskPass, DeskRefusal};
 pub use entry::DeskEntry;
 pub use serial::{Pass, SerialDesk};
-pub use standing::Standing;
+pub use standing::DeskView;
 pub use sure::SureKeeper;
 pub use view::View;

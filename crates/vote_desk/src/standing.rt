@@ -6,7 +6,7 @@ use wire_bcs::Seq;
 /// The member, the sealer over which its answers are meant, the keeper's count of faults and, if they are observable, the
 /// keeper's lists.
 #[derive(Drop)]
-pub struct Standing<S> {
+pub struct DeskView<S> {
     pub validator: Validator,
     pub sealer: S,
     pub faults: u64,

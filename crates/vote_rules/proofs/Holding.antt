@@ -16,7 +16,7 @@ use Rattle.protocol_spec.specs.Chain.Words.{first_of, first_some, repeats}
 use Rattle.protocol_spec.specs.declared.answers.Held.{Held}
 use Rattle.protocol_spec.specs.Member.Checkpoints.{held_of}
 use Rattle.protocol_spec.specs.Member.Member.{consumes, fork_in}
-use Rattle.vote_rules.specs.declared.held_book.Fork.{Fork as Sides}
+use Rattle.vote_rules.specs.declared.certificate_store.Fork.{Fork as Sides}
 use Rattle.vote_rules.specs.Holders.{IsKept, at_place, cert_of, digest_of, fork_by, meets, sides, with_holders}
 use Rattle.vote_rules.proofs.Forks.{fork_more, holder_more}
 

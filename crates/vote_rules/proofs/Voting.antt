@@ -22,7 +22,7 @@ use Rattle.version_store.specs.Stores.{Stored}
 use Rattle.vote_rules.specs.Cases.{ballot_of}
 use Rattle.vote_rules.specs.Decide.{Decides, StandFor, decide_refusal}
 use Rattle.vote_rules.proofs.Locks.{decides_by_votes}
-use Rattle.vote_rules.specs.declared.vote_book.Given.{Given}
+use Rattle.vote_rules.specs.declared.vote_store.Given.{Given}
 use Rattle.vote_rules.specs.Casts.{ballot_with, cast_as, casts, voted_as}
 use Rattle.vote_rules.proofs.Standing.{no_other, stands}
 

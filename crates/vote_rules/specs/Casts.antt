@@ -5,7 +5,7 @@ use Rattle.digest_core.specs.declared.Digest.{Digest}
 use Rattle.chain_types.specs.declared.objects.ObjectKey.{ObjectKey}
 use Rattle.protocol_spec.specs.Member.Votes.{Ballot, Cast}
 use Rattle.version_store.specs.Stores.{Stored}
-use Rattle.vote_rules.specs.declared.vote_book.Given.{Given}
+use Rattle.vote_rules.specs.declared.vote_store.Given.{Given}
 
 -- a vote, by its parts
 abbrev pub voted_as : Digest → List ObjectKey → List (Option Digest) → Cast

@@ -10,7 +10,7 @@ use Rattle.protocol_spec.specs.Chain.Words.{repeats}
 use Rattle.chain_messages.specs.declared.messages.Certificate.{Certificate}
 use Rattle.protocol_spec.specs.declared.answers.Held.{Held}
 use Rattle.protocol_spec.specs.Member.Member.{Fork, consumes, fork_in}
-use Rattle.vote_rules.specs.declared.held_book.Fork.{Fork as Sides}
+use Rattle.vote_rules.specs.declared.certificate_store.Fork.{Fork as Sides}
 
 -- ---- what is held, and its parts
 

@@ -28,14 +28,14 @@ use report_text::{AckText, FinalText, Line};
 use std::alloc::Global;
 use wire_bcs::{OutOfMemory, Seq};
 use world_lines::{
-    Directory, MadeTx, MakesSeals, SaidBook, ack_text, final_text, one_line, spoiled_if,
+    Directory, MadeTx, MakesSeals, StatementLog, ack_text, final_text, one_line, spoiled_if,
 };
 
 /// The ending of the report's line for a member's answer about an acknowledgement; an acknowledgement that it gave is
 /// added to what was stated. Out of memory: nothing is added.
 fn tell_ack(
     directory: &Directory,
-    said: &mut SaidBook,
+    said: &mut StatementLog,
     member: u32,
     answer: Result<Sealed, AckRefusal>,
 ) -> Result<AckText, OutOfMemory>
@@ -58,7 +58,7 @@ fn tell_ack(
 #[tactic(auto, using(crate::proofs::Saying::ack_by_none, crate::proofs::Saying::none_acks, crate::proofs::Saying::ack_by_some, crate::proofs::Saying::some_acks))]
 fn say_ack<S: Sealer>(
     seats: &Seats,
-    said: &mut SaidBook,
+    said: &mut StatementLog,
     directory: &Directory,
     sealer: &S,
     member: u32,

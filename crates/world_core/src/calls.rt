@@ -35,13 +35,13 @@ use schedule_text::Event;
 use std::alloc::Global;
 use std::thread::Threads;
 use wire_bcs::{OutOfMemory, Seq};
-use world_lines::{Directory, MakesSeals, SaidBook, hold_text, one_line, run_lines, vote_text};
+use world_lines::{Directory, MakesSeals, StatementLog, hold_text, one_line, run_lines, vote_text};
 
 /// The ending of the report's line for a member's answer to a request for its vote; a vote that it gave is added to
 /// what was stated. Out of memory: nothing is added.
 fn tell_vote(
     directory: &Directory,
-    said: &mut SaidBook,
+    said: &mut StatementLog,
     member: u32,
     answer: Result<Voted, VoteRefusal>,
 ) -> Result<VoteText, OutOfMemory>
@@ -65,7 +65,7 @@ fn tell_vote(
 fn ask<R: Threads + Sync, D: Keeper, S: MakesSeals>(
     rt: &R,
     seats: &mut Seats,
-    said: &mut SaidBook,
+    said: &mut StatementLog,
     directory: &Directory,
     keeper: &mut D,
     sealer: &S,
@@ -152,7 +152,7 @@ fn run_line(alloc: Global, member: u32, text: RunText) -> Result<Seq<Line>, Seat
 #[tactic(auto, using(world_lines::proofs::Growing::none_added, crate::proofs::Stated::some_said))]
 fn tell_run(
     directory: &Directory,
-    said: &mut SaidBook,
+    said: &mut StatementLog,
     member: u32,
     answer: &Result<Ran, RunRefusal>,
 ) -> Result<Seq<Line>, OutOfMemory>
@@ -179,7 +179,7 @@ fn workers_of(number: u32) -> u32
 fn run<R: Threads + Sync, D: Keeper, S: Sealer>(
     rt: &R,
     seats: &mut Seats,
-    said: &mut SaidBook,
+    said: &mut StatementLog,
     directory: &Directory,
     keeper: &mut D,
     sealer: &S,

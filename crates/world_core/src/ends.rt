@@ -22,13 +22,13 @@ use quorum_core::Sealer;
 use report_text::{EndText, Line};
 use std::alloc::Global;
 use wire_bcs::{OutOfMemory, Seq};
-use world_lines::{Directory, MakesSeals, SaidBook, end_text, one_line};
+use world_lines::{Directory, MakesSeals, StatementLog, end_text, one_line};
 
 /// The ending of the report's line for a member's answer about its End; an End that it gave is added to what was
 /// stated. Out of memory: nothing is added.
 fn tell_end(
     directory: &Directory,
-    said: &mut SaidBook,
+    said: &mut StatementLog,
     member: u32,
     answer: Result<Sealed, EndRefusal>,
 ) -> Result<EndText, OutOfMemory>
@@ -50,7 +50,7 @@ fn tell_end(
 #[tactic(auto, using(crate::proofs::Saying::end_by_none, crate::proofs::Saying::none_ends, crate::proofs::Saying::end_by_some, crate::proofs::Saying::some_ends))]
 fn say_end<S: Sealer>(
     seats: &Seats,
-    said: &mut SaidBook,
+    said: &mut StatementLog,
     directory: &Directory,
     sealer: &S,
     member: u32,

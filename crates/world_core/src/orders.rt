@@ -25,7 +25,7 @@ use wire_bcs::{OutOfMemory, Seq};
 use world_lines::{MakesSeals, one_line, order_and_rise, order_end_line, order_line, sealed_end};
 
 impl World {
-    /// A lemma, nothing runs: each entry that was ordered can be kept in a record, by the invariant of [`OrderBook`].
+    /// A lemma, nothing runs: each entry that was ordered can be kept in a record, by the invariant of [`ConsensusLog`].
     #[tactic(auto, using(crate::proofs::Ordered::can_keep))]
     pub(crate) fn can_keep(&self)
         ensures { AreKeepable self.now.sequences }

@@ -79,7 +79,7 @@ impl World {
     /// Runs a line that touches no record. After a refusal all is as before, except that what the line states may stand, and
     /// that the End of an `order end` was ordered or not.
     #[tactic(auto, unfolding(world_spec::specs::SceneSteps::steps_to, world_spec::specs::SceneSteps::lines_in), using(crate::proofs::Texts::show_is, crate::proofs::Cuts::on_err, crate::proofs::Stated::unsaid_on, crate::proofs::Stated::unsaid_then))]
-    pub(crate) fn run_quiet<S: MakesSeals>(
+    pub(crate) fn run_local_event<S: MakesSeals>(
         &mut self,
         sealer: &S,
         event: &Event,

@@ -36,7 +36,9 @@ use std::alloc::Global;
 use std::thread::Threads;
 use validator_core::Validator;
 use wire_bcs::{OutOfMemory, Seq};
-use world_lines::{Directory, MakesSeals, OrderBook, SaidBook, add_entry_lines, one_line, tx_text};
+use world_lines::{
+    ConsensusLog, Directory, MakesSeals, StatementLog, add_entry_lines, one_line, tx_text,
+};
 
 /// Adds the report's lines for a member's answer to an entry, and answers whether the `see` line goes on after it. The
 /// checkpoints that the entry completed are added to what was stated; out of memory: only the first few, or none.
@@ -44,7 +46,7 @@ use world_lines::{Directory, MakesSeals, OrderBook, SaidBook, add_entry_lines, o
 fn tell_entry(
     directory: &Directory,
     committee: &Committee,
-    said: &mut SaidBook,
+    said: &mut StatementLog,
     lines: &mut Seq<Line>,
     member: u32,
     number: u64,
@@ -88,7 +90,7 @@ fn add_last(lines: &mut Seq<Line>, line: Line) -> Result<bool, SeatFault>
 fn see<R: Threads + Sync, D: Keeper, S: Sealer>(
     rt: &R,
     seats: &mut Seats,
-    said: &mut SaidBook,
+    said: &mut StatementLog,
     directory: &Directory,
     keeper: &mut D,
     sealer: &S,
@@ -144,7 +146,7 @@ fn see<R: Threads + Sync, D: Keeper, S: Sealer>(
 
 /// The next entry of a member that is up, by its number and encoded; none exactly if there is none.
 #[tactic(auto, using(crate::proofs::Nexts::by_none, crate::proofs::Nexts::by_ended, crate::proofs::Nexts::by_left, crate::proofs::Nexts::by_some))]
-fn next_entry<'a>(seats: &Seats, order: &'a OrderBook, member: u32) -> Option<(u64, &'a Seq<u8>)>
+fn next_entry<'a>(seats: &Seats, order: &'a ConsensusLog, member: u32) -> Option<(u64, &'a Seq<u8>)>
     ensures { option_map (λ (p : _). sees p.0 p.1.now) result ≡ next_by seats.now.posts order.now.sequences member }
 {
     let Some(validator) = seats.standing(member) else {

@@ -90,7 +90,7 @@ impl World {
             | Event::Ack { .. }
             | Event::Final { .. }
             | Event::Show(_)
-            | Event::Stop { .. } => match self.run_quiet(sealer, event) {
+            | Event::Stop { .. } => match self.run_local_event(sealer, event) {
                 Ok(lines) => Ok(lines),
                 Err(OutOfMemory) => Err(WorldFault::OutOfMemory),
             },

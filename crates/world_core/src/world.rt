@@ -18,7 +18,8 @@ use std::alloc::Global;
 use std::marker::Model;
 use wire_bcs::{OutOfMemory, Seq};
 use world_lines::{
-    CertBook, Directory, MakesSeals, OrderBook, SaidBook, honest_of, stakes_of, writers_of,
+    ConsensusLog, Directory, FormedCertificates, MakesSeals, StatementLog, honest_of, stakes_of,
+    writers_of,
 };
 
 /// Why a set-up opens no world.
@@ -44,9 +45,9 @@ pub enum WorldFault {
 pub struct World {
     pub(crate) opening: Seq<Object>,
     pub(crate) directory: Directory,
-    pub(crate) order: OrderBook,
-    pub(crate) said: SaidBook,
-    pub(crate) certs: CertBook,
+    pub(crate) order: ConsensusLog,
+    pub(crate) said: StatementLog,
+    pub(crate) certs: FormedCertificates,
     pub(crate) seats: Seats,
     pub(crate) alloc: Global,
 }
@@ -84,9 +85,9 @@ impl World {
         Ok(World {
             opening,
             directory,
-            order: OrderBook::new(alloc),
-            said: SaidBook::new(alloc),
-            certs: CertBook::new(alloc),
+            order: ConsensusLog::new(alloc),
+            said: StatementLog::new(alloc),
+            certs: FormedCertificates::new(alloc),
             seats,
             alloc,
         })

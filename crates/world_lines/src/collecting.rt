@@ -7,7 +7,7 @@ ghost use Rattle.protocol_spec.specs.Chain.Tests.{origins_eq};
 ghost use Rattle.cert_rules.specs.Collecting.{collected_as};
 ghost use Rattle.world_spec.specs.Step.{ack_in, last_said, vote_in};
 
-use crate::said::SaidBook;
+use crate::said::StatementLog;
 use cert_rules::{Collected, LastWords, collect_words, same_origins};
 use digest_core::Digest;
 use quorum_core::Committee;
@@ -16,7 +16,7 @@ use wire_bcs::Seq;
 /// The book's last votes for this transaction of this epoch, as a source for collecting.
 #[derive(Clone, Copy)]
 struct Votes<'a> {
-    book: &'a SaidBook,
+    book: &'a StatementLog,
     epoch: u64,
     tx: &'a Digest,
 }
@@ -42,7 +42,7 @@ impl LastWords for Votes<'_> {
 /// The book's last acknowledgements of this transaction in this epoch, as a source for collecting.
 #[derive(Clone, Copy)]
 struct Acks<'a> {
-    book: &'a SaidBook,
+    book: &'a StatementLog,
     epoch: u64,
     tx: &'a Digest,
 }
@@ -65,7 +65,7 @@ impl LastWords for Acks<'_> {
     }
 }
 
-impl SaidBook {
+impl StatementLog {
     /// What the last votes of these members for a transaction of an epoch give: the first member without one, too little stake,
     /// the first two that differ, or that all agree. The members may come in any order, and more than once: their
     /// stake is that of their set. Takes no memory.

@@ -10,7 +10,7 @@ ghost use Rattle.world_lines.specs.KnownRows.{made_as};
 ghost use Rattle.world_lines.specs.FalseVotes.{origins_by, with_none};
 
 use crate::runs::one_line;
-use crate::said::SaidBook;
+use crate::said::StatementLog;
 use crate::words::origin_names;
 use crate::{Directory, MadeTx};
 use chain_types::{Input, Transaction};
@@ -96,7 +96,7 @@ fn named_origins(
 #[tactic(auto, using(crate::proofs::Origins::words_named, crate::proofs::Origins::voted_first, crate::proofs::Origins::none_voted))]
 pub fn false_origins(
     directory: &Directory,
-    said: &SaidBook,
+    said: &StatementLog,
     honest: &[bool],
     made: &MadeTx,
     words: &[Option<Seq<u8>>],

@@ -49,14 +49,14 @@ fn cert_at(rows: &[FormedRow], place: Option<usize>) -> Option<&Encoded<Certific
 
 /// The certificates formed in a run. Contracts see them with their names, in the order of forming.
 #[derive(Drop)]
-pub struct CertBook {
+pub struct FormedCertificates {
     rows: Vec<FormedRow>,
     /// The place of the last certificate of each name.
     places: IndexMap<Vec<u8>, usize>,
     alloc: Global,
 }
 
-impl Model for CertBook {
+impl Model for FormedCertificates {
     ghost use Rattle.std.specs.Prelude.{List, bytes_eq};
     ghost use Rattle.world_spec.specs.World.{Formed};
     ghost use Rattle.world_lines.specs.Places.{LastPlaced};
@@ -69,12 +69,12 @@ impl Model for CertBook {
     ghost invariant = { λ b. LastPlaced (λ name k. bytes_eq name k.items) is_named b.rows.items b.places.entries };
 }
 
-impl CertBook {
+impl FormedCertificates {
     /// A book without certificates. Takes no memory.
-    pub fn new(alloc: Global) -> CertBook
+    pub fn new(alloc: Global) -> FormedCertificates
         ensures { result ≡ [] }
     {
-        CertBook {
+        FormedCertificates {
             rows: Vec::new(alloc),
             places: IndexMap::new(alloc),
             alloc,

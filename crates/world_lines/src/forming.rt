@@ -10,7 +10,7 @@ ghost use Rattle.world_lines.specs.KnownRows.{made_as};
 ghost use Rattle.world_lines.specs.Forming.{first_origins_by, vote_bytes};
 ghost use Rattle.world_lines.specs.SaidVotes.{vote_by};
 
-use crate::said::SaidBook;
+use crate::said::StatementLog;
 use crate::{MadeTx, MakesSeals};
 use chain_messages::{Certificate, MemberSeal, Statement, encode_statement};
 use digest_core::Digest;
@@ -58,7 +58,7 @@ pub fn vote_seal<S: MakesSeals>(
 }
 
 /// The seal that a member put on its last vote for a transaction; zeros if it made none. Takes no memory.
-fn collected_seal(said: &SaidBook, made: &MadeTx, member: u32) -> MemberSeal
+fn collected_seal(said: &StatementLog, made: &MadeTx, member: u32) -> MemberSeal
     ensures { result ≡ collected_seal said.now (made_as made.now) member }
 {
     let epoch = made.signed.value().tx.epoch;
@@ -72,7 +72,7 @@ fn collected_seal(said: &SaidBook, made: &MadeTx, member: u32) -> MemberSeal
 /// The seals of the last votes of members for a transaction, in the order of the members.
 fn collected_seals(
     alloc: Global,
-    said: &SaidBook,
+    said: &StatementLog,
     made: &MadeTx,
     members: &[u32],
 ) -> Result<Vec<MemberSeal>, OutOfMemory>
@@ -89,7 +89,7 @@ fn collected_seals(
 /// The certificate of these members' votes for a transaction, which name these origins.
 fn certificate(
     alloc: Global,
-    said: &SaidBook,
+    said: &StatementLog,
     made: &MadeTx,
     origins: &[Option<Digest>],
     members: &[u32],
@@ -107,7 +107,7 @@ fn certificate(
 /// The origins that a member voted for last; none if it made no such vote.
 fn voted_origins(
     alloc: Global,
-    said: &SaidBook,
+    said: &StatementLog,
     epoch: u64,
     tx: &Digest,
     member: u32,
@@ -124,7 +124,7 @@ fn voted_origins(
 #[tactic(auto, using(crate::proofs::Spelled::first_of_none, crate::proofs::Spelled::first_of_some))]
 fn first_origins(
     alloc: Global,
-    said: &SaidBook,
+    said: &StatementLog,
     epoch: u64,
     tx: &Digest,
     members: &[u32],
@@ -142,7 +142,7 @@ fn first_origins(
 #[tactic(auto, using(crate::proofs::Spelled::certificate_short))]
 pub fn certify(
     alloc: Global,
-    said: &SaidBook,
+    said: &StatementLog,
     made: &MadeTx,
     members: &[u32],
 ) -> Result<Certificate, OutOfMemory>

@@ -3,11 +3,11 @@
 //! Each call turns an answer into the endings or lines that a report has for it, in which a
 //! [`Directory`] names transactions, versions and objects. An answer is only read.
 //!
-//! A [`SaidBook`] keeps all statements, oldest first, and finds by maps a member's last vote for a transaction, its last
-//! End, and its last acknowledgement of a transaction in an epoch; [`SaidBook::collect`] and [`SaidBook::collect_acks`]
-//! say what the last votes and acknowledgements of members give. A [`CertBook`] keeps the certificates under the
+//! A [`StatementLog`] keeps all statements, oldest first, and finds by maps a member's last vote for a transaction, its last
+//! End, and its last acknowledgement of a transaction in an epoch; [`StatementLog::collect`] and [`StatementLog::collect_acks`]
+//! say what the last votes and acknowledgements of members give. A [`FormedCertificates`] keeps the certificates under the
 //! names for which they were formed, and finds the last of a name by a map. [`certify`] collects the votes of members
-//! with the seals that they put on them. An [`OrderBook`] keeps the sequences of the epochs, each entry encoded once,
+//! with the seals that they put on them. An [`ConsensusLog`] keeps the sequences of the epochs, each entry encoded once,
 //! and beside them the Ends of the open epoch: only they say whether it has ended. Each answer is the definition's, one
 //! equation a call.
 //!
@@ -71,7 +71,7 @@ pub use ends_law::an_epoch_ends_by_its_ends;
 pub use entries::add_entry_lines;
 pub use epochs::{ack_text, close_text, end_text, turn_lines};
 pub use false_votes::{false_origins, false_vote_line, false_vote_lines};
-pub use formed::CertBook;
+pub use formed::FormedCertificates;
 pub use forming::{certify, vote_seal};
 pub use holds::hold_text;
 pub use inputs::{HeldDigests, spoiled_if};
@@ -81,11 +81,11 @@ pub use making::{MakeRefusal, MakesSeals, make};
 pub use making_law::made_in_a_world;
 pub use names_law::names_of_a_world;
 pub use opening::{honest_of, stakes_of, writers_of};
-pub use order::OrderBook;
+pub use order::ConsensusLog;
 pub use ordered::{order_and_rise, order_end_line, order_line, sealed_end};
 pub use rows::MadeTx;
 pub use runs::{one_line, run_lines};
-pub use said::SaidBook;
+pub use said::StatementLog;
 pub use said_law::said_in_a_world;
 pub use shows::{object_line, shown_lines};
 pub use votes::vote_text;

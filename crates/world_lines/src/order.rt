@@ -1,4 +1,4 @@
-//! The [`OrderBook`]: the sequences of a run, each entry encoded once.
+//! The [`ConsensusLog`]: the sequences of a run, each entry encoded once.
 
 ghost use Rattle.std.specs.Prelude.{◌≡◌, ℕ, IfOk, OnErr, OnOk, Option, length, option_copied, option_map, slice_get};
 ghost use Rattle.wire_bcs.specs.Wrote.{Writes};
@@ -98,7 +98,7 @@ fn past_rows(past: &[Seq<OrderedRow>], epoch: u64) -> Option<&Seq<OrderedRow>>
 
 /// The sequences of a run: those of the epochs before, and the open one. Contracts see their entries.
 #[derive(Drop)]
-pub struct OrderBook {
+pub struct ConsensusLog {
     past: Seq<Seq<OrderedRow>>,
     open: Seq<OrderedRow>,
     /// The Ends of the open epoch among its entries, each once. Only they say whether it has ended.
@@ -106,7 +106,7 @@ pub struct OrderBook {
     alloc: Global,
 }
 
-impl Model for OrderBook {
+impl Model for ConsensusLog {
     ghost use Rattle.std.specs.Prelude.{length};
     ghost use Rattle.protocol_spec.specs.Chain.Words.{Each};
     ghost use Rattle.world_lines.specs.Orders.{AreEnds, AreSpelled, Orders, orders_of};
@@ -118,13 +118,13 @@ impl Model for OrderBook {
     ghost invariant = { λ b. Each AreSpelled b.past × AreSpelled b.open × AreEnds (length b.past) b.open b.ends.items };
 }
 
-impl OrderBook {
+impl ConsensusLog {
     /// A book in epoch 0, with nothing ordered. Takes no memory.
     #[tactic(auto, using(crate::proofs::KeptEnds::no_ends))]
-    pub fn new(alloc: Global) -> OrderBook
+    pub fn new(alloc: Global) -> ConsensusLog
         ensures { result ≡ no_orders }
     {
-        OrderBook {
+        ConsensusLog {
             past: Seq::new(alloc),
             open: Seq::new(alloc),
             ends: Vec::new(alloc),

@@ -8,7 +8,7 @@ ghost use Rattle.world_spec.specs.SceneWorlds.{AreKeepable};
 ghost use Rattle.world_lines.specs.Orders.{risen_by, sealed_end_by, with_entry};
 
 use crate::MakesSeals;
-use crate::order::OrderBook;
+use crate::order::ConsensusLog;
 use crate::runs::one_line;
 use chain_messages::{Entry, Sealed, Statement, encode_statement};
 use quorum_core::{Committee, Sealer, Signer};
@@ -60,7 +60,7 @@ pub fn sealed_end<S: MakesSeals>(
 /// members of this committee that accept these seals. If memory is refused no epoch opens, and the book is as before or
 /// has the entry.
 pub fn order_and_rise<S: Sealer>(
-    order: &mut OrderBook,
+    order: &mut ConsensusLog,
     committee: &Committee,
     sealer: &S,
     entry: &Entry,

@@ -1,4 +1,4 @@
-//! The [`SaidBook`]: what members stated in a run, and the last statement of each kind.
+//! The [`StatementLog`]: what members stated in a run, and the last statement of each kind.
 
 ghost use Rattle.std.specs.Prelude.{◌≡◌, ◌<◌, ◌++◌, ◌∷◌, [], OnErr, OnOk, map, option_and_then, option_copied, option_map, slice_get};
 ghost use Rattle.std.specs.Vec.{vec_capacity, vec_len};
@@ -124,12 +124,12 @@ fn seal_at(rows: &[SaidRow], place: Option<usize>) -> Option<Digest>
 
 /// The statements of a run. Contracts see them with their members, oldest first.
 #[derive(Drop)]
-pub struct SaidBook {
+pub struct StatementLog {
     rows: Vec<SaidRow>,
     places: LastPlaces,
 }
 
-impl Model for SaidBook {
+impl Model for StatementLog {
     ghost use Rattle.std.specs.Prelude.{List};
     ghost use Rattle.world_spec.specs.World.{Said};
     ghost use Rattle.world_lines.specs.Keys.{AreLast};
@@ -142,12 +142,12 @@ impl Model for SaidBook {
     ghost invariant = { λ b. AreLast b.rows.items b.places };
 }
 
-impl SaidBook {
+impl StatementLog {
     /// A book without statements. Takes no memory.
-    pub fn new(alloc: Global) -> SaidBook
+    pub fn new(alloc: Global) -> StatementLog
         ensures { result ≡ [] }
     {
-        SaidBook {
+        StatementLog {
             rows: Vec::new(alloc),
             places: LastPlaces::new(alloc),
         }

@@ -11,8 +11,8 @@ use Rattle.validator_core.specs.Answers.{bare}
 use Rattle.validator_core.specs.Steps.{counted_where, items_of}
 use Rattle.validator_core.specs.Calls.{run_ended, unkept_run}
 use Rattle.validator_core.specs.Seats.{Journaled}
-use Rattle.validator_core.specs.declared.keeping.Unkept.{Unkept}
-use Rattle.validator_core.specs.declared.keeping.Unkept.TheVariants as unkept
+use Rattle.validator_core.specs.declared.keeping.JournalFault.{JournalFault}
+use Rattle.validator_core.specs.declared.keeping.JournalFault.TheVariants as unkept
 use Rattle.validator_core.proofs.Running.{is_kept, run_called, run_due, run_fault_kept, run_goes, run_maybe_kept, run_owed, run_unkept}
 use Rattle.validator_core.proofs.epoch_calls.run.Goals as goal
 
@@ -39,7 +39,7 @@ returns-in_err-keep_run-clause-owed g c = λ fault.
     let these : items ≡ ran_items m = ap (λ (es : List Effects). items_of es) c.as_slice.ensures.value ∙ c.in-Ok-run.ensures.items in
     let p = err_from_is_err_and c.from_residual.result c.from_residual.ensures.1 in
     let same : c.in_err-keep_run.field-0.0 ≡ unkept.KeepFault = run_fault_kept c.in_err-keep_run.field-0.0 p.0 c.from_residual.result p.2 p.1 fault in
-    run_owed m c.in-Ok-run.ran items (run_goes m c.in-Ok-run.ran c.in-Ok.ensures.value c.in-Ok-run.ensures.ran) these (c.in_err-keep_run.ensures.owed (ap (λ (w : Unkept). Err w) same))
+    run_owed m c.in-Ok-run.ran items (run_goes m c.in-Ok-run.ran c.in-Ok.ensures.value c.in-Ok-run.ensures.ran) these (c.in_err-keep_run.ensures.owed (ap (λ (w : JournalFault). Err w) same))
 
 pub returns-clause-state : goal.returns-clause-state
 returns-clause-state g c =

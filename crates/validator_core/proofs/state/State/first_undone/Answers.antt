@@ -6,7 +6,7 @@ use Rattle.validator_core.proofs.state.State.first_undone.Goals as goal
 
 pub returns : goal.returns
 returns c =
-    let s = c.self.inside.course in
+    let s = c.self.inside.epoch_state in
     let sound = c.self.invariant.sound in
     c.waits.ensures.first s.epoch s.held s.store.executed s.admission.admission.admitted (sound.all s.held s.admission.admission.admitted sound.unbuilt.told)
     ∙ ap (λ (x : Limited). first_of (waiting_one x.member.held x.member.executed) x.member.sequence.admission.admitted) c.self.view_is

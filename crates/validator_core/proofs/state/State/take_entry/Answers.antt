@@ -15,12 +15,12 @@ pub ordered_on-self-inside-requires : goal.ordered_on-self-inside-requires
 ordered_on-self-inside-requires c =
     let s = c.self.inside in
     subst (λ (hs : List Held). s.ordered ≤ front_length (is_ordered c.see.new.self.admission.admission) hs) (sym c.as_slice.ensures.value)
-    (ordered_behind c.args.committee.now s.ordered (coursed s.course) c.args.arrival (coursed c.see.new.self) c.self.invariant.front c.in-Ok.ensures.value)
+    (ordered_behind c.args.committee.now s.ordered (coursed s.epoch_state) c.args.arrival (coursed c.see.new.self) c.self.invariant.front c.in-Ok.ensures.value)
 
 pub returns-in-Ok-clause-state : goal.returns-in-Ok-clause-state
 returns-in-Ok-clause-state c =
     λ (accepts : Accepting). let s = c.self.inside in
-    entry_is c.args.committee.now (coursed s.course) (coursed c.see.new.self) c.args.arrival s.records s.closed s.votes accepts c.in-Ok.ensures.value
+    entry_is c.args.committee.now (coursed s.epoch_state) (coursed c.see.new.self) c.args.arrival s.records s.closed s.votes accepts c.in-Ok.ensures.value
     ∙ ap (λ (x : Limited). behind_entry (rules_for (terms_at x c.args.committee.now) accepts) x.member (what_as c.args.arrival)) c.self.view_is
 
 pub returns-in-Ok-clause-built : goal.returns-in-Ok-clause-built

@@ -8,5 +8,5 @@ invariant_of-self c = let s = c.self.inside in record {
   few = c.self.invariant.few;
   sound = c.in-Ok.ensures.sound;
   seen = let was = c.self.invariant.seen in let same = c.hold.ensures.seen in omega (arith, was, same);
-  front = ordered_held s.ordered (coursed s.course) c.args.held (coursed c.hold.new.self) c.self.invariant.front c.in-Ok.ensures.value;
+  front = ordered_held s.ordered (coursed s.epoch_state) c.args.held (coursed c.hold.new.self) c.self.invariant.front c.in-Ok.ensures.value;
 }

@@ -11,5 +11,5 @@ pub returns-in-Ok-clause-state : goal.returns-in-Ok-clause-state
 returns-in-Ok-clause-state c =
     let s = c.self.inside in
     ap (λ (votes : List Cast). member_with (s.records + 1) false votes (coursed c.turn.new.self)) (c.replace.ensures.after ∙ c.new.ensures)
-    ∙ turning_is s.records s.closed s.votes (coursed s.course) (coursed c.turn.new.self) c.in-Ok.ensures.value
+    ∙ turning_is s.records s.closed s.votes (coursed s.epoch_state) (coursed c.turn.new.self) c.in-Ok.ensures.value
     ∙ ap (λ (x : Limited). turning x.member) c.self.view_is

@@ -15,10 +15,10 @@ returns-in-Ok-clause-stay g c = step_stays (trust_by (g.S.MakesSeals.made c.args
 pub returns-in-Ok-run_call-clause-stay : goal.returns-in-Ok-run_call-clause-stay
 returns-in-Ok-run_call-clause-stay g c = step_stays (trust_by (g.S.MakesSeals.made c.args.sealer.now) (g.S.Checker.accepts c.args.sealer.now)) c.args.self.now c.run_call.new.self c.args.event.now c.in-Ok-run_call.ensures.world
 
-pub returns-in-Ok-run_quiet-clause-stay : goal.returns-in-Ok-run_quiet-clause-stay
-returns-in-Ok-run_quiet-clause-stay g c = step_stays (trust_by (g.S.MakesSeals.made c.args.sealer.now) (g.S.Checker.accepts c.args.sealer.now)) c.args.self.now c.run_quiet.new.self c.args.event.now c.in-Ok-run_quiet.ensures.world
+pub returns-in-Ok-run_local_event-clause-stay : goal.returns-in-Ok-run_local_event-clause-stay
+returns-in-Ok-run_local_event-clause-stay g c = step_stays (trust_by (g.S.MakesSeals.made c.args.sealer.now) (g.S.Checker.accepts c.args.sealer.now)) c.args.self.now c.run_local_event.new.self c.args.event.now c.in-Ok-run_local_event.ensures.world
 
-pub returns-in-Ok-run_quiet-clause-kept : goal.returns-in-Ok-run_quiet-clause-kept
+pub returns-in-Ok-run_local_event-clause-kept : goal.returns-in-Ok-run_local_event-clause-kept
 unfolding work_of
-returns-in-Ok-run_quiet-clause-kept g c =
-    quiet_leaves (trust_by (g.S.MakesSeals.made c.args.sealer.now) (g.S.Checker.accepts c.args.sealer.now)) c.args.self.now c.args.event.now (g.D.Keeper.lists c.args.keeper.now) (let x : Result (List Line) WorldFault = Ok c.in-Ok-run_quiet.lines in x) (let quiet : is_quiet c.args.event.now ≡ true = search rules in quiet)
+returns-in-Ok-run_local_event-clause-kept g c =
+    quiet_leaves (trust_by (g.S.MakesSeals.made c.args.sealer.now) (g.S.Checker.accepts c.args.sealer.now)) c.args.self.now c.args.event.now (g.D.Keeper.lists c.args.keeper.now) (let x : Result (List Line) WorldFault = Ok c.in-Ok-run_local_event.lines in x) (let quiet : is_quiet c.args.event.now ≡ true = search rules in quiet)

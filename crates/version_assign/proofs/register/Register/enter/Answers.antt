@@ -1,5 +1,0 @@
-use Rattle.std.proofs.Common.{◌∙◌}
-use Rattle.version_assign.proofs.register.Register.enter.Goals as goal
-
-pub returns-clause-entered : goal.returns-clause-entered
-returns-clause-entered c = c.settle_listed.ensures.settled ∙ c.add_row.ensures.settled

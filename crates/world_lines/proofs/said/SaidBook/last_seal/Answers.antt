@@ -1,6 +1,0 @@
-use Rattle.std.proofs.Common.{◌∙◌}
-use Rattle.world_lines.proofs.Books.{seal_found}
-use Rattle.world_lines.proofs.said.SaidBook.last_seal.Goals as goal
-
-pub returns : goal.returns
-returns c = c.seal_at.ensures ∙ seal_found c.args.member c.args.epoch c.args.tx.now c.self.inside.rows.items c.self.inside.places c.self.invariant c.self.view_is c.as_slice.ensures.value c.vote-place.ensures
