@@ -12,6 +12,6 @@ pub mod Tasks
 pub mod Planning
 pub mod Gathering
 pub mod Drafts
-pub mod PlannedView
-pub mod PlanSoFar
+pub mod Past
+pub mod Ahead
 pub mod Keeping
