@@ -31,7 +31,7 @@ use Rattle.world_spec.specs.Terms.{terms_of}
 use Rattle.world_lines.specs.Answers.{vote_as}
 use Rattle.world_core.specs.Looks.{vote_line_by}
 use Rattle.vote_desk.specs.declared.entry.DeskEntry.{DeskEntry}
-use Rattle.vote_desk.specs.declared.standing.Standing.{Standing}
+use Rattle.vote_desk.specs.declared.standing.DeskView.{DeskView}
 use Rattle.vote_desk.specs.Callers.{AreAnswered, asked_in}
 use Rattle.vote_desk.specs.Dealt.{AreMadeBy}
 use Rattle.vote_desk.specs.Histories.{IsLegal}
@@ -64,7 +64,7 @@ signed_bytes t = transactions.signed.spell t.signed
 -- ---- the history
 
 -- member 0 as the set-up has it, behind a desk over the seals that are accepted and a keeper in memory with an empty list for each of 64 members
-abbrev pub desk_opening : Trust → Schedule → Standing Accepts
+abbrev pub desk_opening : Trust → Schedule → DeskView Accepts
 desk_opening trust s = standing (seat_at (terms_of (setting_in trust s).rules) 0 (fresh (setting_in trust s).opening)) trust.accepts 0 (Some (replicate 64 []))
 
 -- a history of the desk: this many callers ask, in turns, for the transactions of the lines. Each is answered, as one member answers them one after the other

@@ -11,7 +11,7 @@ use chain_messages::Certificate;
 use chain_types::{
     Content, Input, Object, ObjectKey, ObjectRef, Owner, Transaction, object_digest,
 };
-use exec_plan::{Waiting, left};
+use exec_plan::{DependencyIndex, left};
 use protocol_spec::{Held, SharedCertificate};
 use std::alloc::Global;
 use std::process::Abort;
@@ -85,7 +85,7 @@ fn left_of(
     admission: &Admission,
     held: Held,
 ) -> Result<Option<Option<ObjectKey>>, OutOfMemory> {
-    let mut waiting = Waiting::new(alloc);
+    let mut waiting = DependencyIndex::new(alloc);
     waiting.hold(store, admission, &[], &held)?;
     let mut all = Seq::new(alloc);
     all.push(held)?;
