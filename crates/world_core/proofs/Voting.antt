@@ -205,3 +205,24 @@ pub false_lines : (v sc : Scene) (m : ℕ) (name : Name) (words : List (Option N
 false_lines v sc m name words made origins lines same e o l =
     subst (λ (x : Scene). lines ≡ fvote_lines (bare_world x) m name words (made_named (bare_world x) name)) same
     (vote_lines v m name words made (made_named (bare_world v) name) origins lines e o l)
+
+abbrev with_said : Scene → List Said → Scene
+with_said sc said = record sc { said = said }
+
+pub false_none : (trust : Trust) (v sc : Scene) (m : ℕ) (name : Name) (words : List (Option Name)) (made : MadeTx) (flags : List Bool) (b : Bool) → v ≡ sc → Some (made_as made) ≡ made_named (bare_world v) name
+    → flags ≡ honest_flags v.posts → b ≡ flag_at (slice_get flags m) → b ≡ true → sc ≡ with_said sc (fvoted (bare_setting trust sc) (bare_world sc) m words (made_named (bare_world sc) name)).said
+false_none trust v sc m name words made flags b same e are flag is =
+    subst (λ (x : Scene). x ≡ with_said x (fvoted (bare_setting trust x) (bare_world x) m words (made_named (bare_world x) name)).said) same
+    (ap (with_said v) (honest_votes_not trust v m words made (made_named (bare_world v) name) e (sym (ap (λ (fs : List Bool). flag_at (slice_get fs m)) are) ∙ sym flag ∙ is)))
+
+pub false_said : (trust : Trust) (v sc : Scene) (m : ℕ) (name : Name) (words : List (Option Name)) (made : MadeTx) (flags : List Bool) (b : Bool) (origins : List (Option Digest)) (seal : Digest) (signed : SignedTx) (said : List Said) → v ≡ sc
+    → Some (made_as made) ≡ made_named (bare_world v) name → flags ≡ honest_flags v.posts → b ≡ flag_at (slice_get flags m) → b ≡ false → origins ≡ origins_by v.known v.said flags (made_as made) words
+    → seal ≡ seal_of_member trust.seal m (statement.Vote made.signed.tx.epoch made.digest origins) → signed ≡ made.signed → said ≡ v.said ++ said_under seal m (statement.Vote signed.tx.epoch made.digest origins) ∷ []
+    → with_said v said ≡ with_said sc (fvoted (bare_setting trust sc) (bare_world sc) m words (made_named (bare_world sc) name)).said
+false_said trust v sc m name words made flags b origins seal signed said same e are flag is o sealed x s =
+    subst (λ (x : Scene). with_said v said ≡ with_said x (fvoted (bare_setting trust x) (bare_world x) m words (made_named (bare_world x) name)).said) same
+    (ap (with_said v) (faulty_votes trust v m words made (made_named (bare_world v) name) origins seal said e
+    (sym (ap (λ (fs : List Bool). flag_at (slice_get fs m)) are) ∙ sym flag ∙ is)
+    (o ∙ ap (λ (fs : List Bool). origins_by v.known v.said fs (made_as made) words) are)
+    sealed
+    (s ∙ ap (λ (y : SignedTx). v.said ++ said_under seal m (statement.Vote y.tx.epoch made.digest origins) ∷ []) x)))
