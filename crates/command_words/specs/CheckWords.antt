@@ -33,7 +33,7 @@ check_of (Some stakes) tx = check_with stakes tx
 unfoldable pub check_words : List ℕ → List ℕ → Option Command
 check_words stakes tx = check_of (stakes_in stakes) (digest_in tx)
 
--- the `check` command that the words are, none if they are no such command: `check`, stakes and a digest
+-- the `check` command that the words are, none if they are not one: `check`, stakes and a digest
 abbrev pub check_in : List (List ℕ) → Option Command
 check_in (name ∷ stakes ∷ tx ∷ []) = if bytes_eq name (codes "check") then check_words stakes tx else None
 check_in words = None

@@ -1,4 +1,4 @@
-//! Pieces of the program's own lines, which are no lines of a report.
+//! Pieces of the program's own lines, which are not lines of a report.
 
 ghost use Rattle.std.specs.Prelude.{◌≡◌, ◌++◌, IfOk, decimal};
 

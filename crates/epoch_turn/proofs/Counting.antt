@@ -1,4 +1,4 @@
--- Members that are counted once are no more than the committee has.
+-- Members that are counted once are at most as many as the committee has.
 use Rattle.std.proofs.Common.{◌≡◌, ◌∙◌, refl, sym, ap, arith, ℕ, ◌+◌, ◌<◌, Bool, true, false, ◌||◌, List, [], ◌∷◌, ◌++◌, length, length-append}
 use Rattle.std.specs.Prelude.{nat_eq, nat_lt, ◌==◌}
 use Rattle.std.specs.List.{list_any, IsDistinct}

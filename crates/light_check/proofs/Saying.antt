@@ -46,7 +46,7 @@ other_status (finding.Judged (verdict.Malformed at why)) (inr e) = absurd (cc)
 other_status (finding.Judged (verdict.Bad place cause)) (inl e) = absurd (cc)
 other_status (finding.Judged (verdict.Bad place cause)) (inr e) = absurd (cc)
 
--- a status that was written whole is no other
+-- a status whose line was written whole is not another one
 pub never_cut : {A : Type 0} (f : Finding) (status : ℕ) → status ≡ finding_status f → (status ≡ 5) ⊎ (status ≡ 7) → A
 never_cut f status is e = absurd (other_status f (moved e))
   where

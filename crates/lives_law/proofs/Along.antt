@@ -70,7 +70,7 @@ module _ (r : Rules) (opening : List Object) where
   before-behind before None = front_whole before
   before-behind before (Some x) = (x ∷ [], refl)
 
-  -- its records begin with those of the life's start, and those behind it with those of its end
+  -- its records begin with those of the life's start, and those after it begin with those of its end
   pub record IsWithin (first : List Record) (last : List Record) (a : Answered) : Type 0 where
     pub from : IsFront first a.before
     pub to : IsFront (behind a) last
@@ -97,7 +97,7 @@ module _ (r : Rules) (opening : List Object) where
         sound = λ sound. rest.sound (sound-appended before call (due r (state r opening before) call) refl sound);
       }
 
-  -- of two answers the one is behind the other, or they are one
+  -- of two answers one comes after the other, or they are one
   abbrev pub AreOrdered : Answered → Answered → Type 0
   AreOrdered a b = IsFront (behind a) b.before ⊎ IsFront (behind b) a.before ⊎ (a ≡ b)
 
@@ -128,7 +128,7 @@ module _ (r : Rules) (opening : List Object) where
       front_then records life.last (last_records life.last lives)
       (subst (λ (xs : List Record). IsFront xs life.last) are.0 (start-front life are.1)) (to-last lives life.last are.2)
 
-  -- it found sound records that begin with these, and those behind it are the first in the last file
+  -- it found sound records that begin with these, and the records after it are the first in the last file
   pub record IsAmong (first last : List Record) (a : Answered) : Type 0 where
     pub from : IsFront first a.before
     pub to : IsFront (behind a) last

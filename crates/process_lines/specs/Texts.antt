@@ -69,7 +69,7 @@ digest_word d = concat (codes " " ∷ digest_text d ∷ [])
 unfoldable pub digests_text : List Digest → List ℕ
 digests_text digests = flat_map digest_word digests
 
--- a word and the digests after it; nothing if there are no digests
+-- a word and the digests after it, or nothing if there are none
 abbrev pub part_text : List ℕ → List Digest → List ℕ
 part_text word [] = []
 part_text word (d ∷ ds) = word ++ digests_text (d ∷ ds)

@@ -28,7 +28,7 @@ pub(crate) fn print_digests(out: &mut Seq<u8>, digests: &[Digest]) -> Result<(),
     Ok(())
 }
 
-/// Prints a word and the digests after it; nothing if there are no digests.
+/// Prints a word and the digests after it, or nothing if there are none.
 fn print_part(out: &mut Seq<u8>, word: &[u8], digests: &[Digest]) -> Result<(), OutOfMemory>
     ensures { OnOk result (out.new ≡ out.old ++ part_text word.now digests.now) }
 {

@@ -35,7 +35,7 @@ pub enum StartLine {
     NoMember {
         member: u32,
     },
-    /// The file is no journal: it was not made, or the making was cut off.
+    /// The file is not a journal: it was not made, or the making was cut off.
     NotMade,
     OtherMember,
     OtherGenesis,

@@ -53,7 +53,7 @@ names_text names = flat_map (λ name. 32 ∷ name) names
 unfoldable pub numbers_text : List ℕ → List ℕ
 numbers_text numbers = flat_map (λ n. 32 ∷ decimal n) numbers
 
--- a word and the names after it, each after a space; nothing if there are no names
+-- a word and the names after it, each after a space, or nothing if there are none
 abbrev pub part_text : List ℕ → List (List ℕ) → List ℕ
 part_text word [] = []
 part_text word (name ∷ names) = word ++ names_text (name ∷ names)

@@ -256,7 +256,7 @@ pub(crate) fn print_numbers(out: &mut Seq<u8>, numbers: &Seq<u64>) -> Result<(),
     Ok(())
 }
 
-/// Prints a word and the names after it, each after a space; nothing if there are no names.
+/// Prints a word and the names after it, each after a space, or nothing if there are none.
 #[tactic(auto, using(crate::proofs::Appends::fronts))]
 pub(crate) fn print_part(
     out: &mut Seq<u8>,

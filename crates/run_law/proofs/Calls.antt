@@ -80,7 +80,7 @@ split_args : (xs : List ArgWord) → AreArgs xs → comma_parts (join_with_byte 
 split_args [] h = absurd (omega (arith, h.0))
 split_args (x ∷ xs) h = split_commas (arg_word x) (map arg_word xs) (args_pass (x ∷ xs) h.1)
 
--- a word that is there is no missing word
+-- a word that is there is not missing
 not_none : (w : List ℕ) (ws : List (List ℕ)) → 0 < length w → call_words (join_with_byte 44 (w ∷ ws)) ≡ comma_parts (join_with_byte 44 (w ∷ ws))
 not_none [] ws some = absurd (omega (arith, some))
 not_none (b ∷ w) [] some = refl

@@ -90,7 +90,7 @@ vector_value [] = None
 vector_value (kind ∷ values) = with_both (kind_of kind) (each_of arg_of values) (λ k vs. command.MakeVec k vs)
 
 -- whether what stands between `(` and `)` has the form that this kind of command needs. An empty text counts as one
--- empty word, which is no argument, so `split`, `merge` and `transfer` need one word at least
+-- empty word, which is not an argument, so `split`, `merge` and `transfer` need one word at least
 abbrev pub command_form : CommandKind → List ℕ → Bool
 command_form kind.Split inside = list_all is_arg (comma_parts inside)
 command_form kind.Merge inside = list_all is_arg (comma_parts inside)

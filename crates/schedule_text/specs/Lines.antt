@@ -78,7 +78,7 @@ writers_line (limit ∷ []) =
     if_form (is_digits limit) (option_map (λ n. statement.Setup (setup.Writers n)) (number_in 1 65535 limit))
 writers_line words = Err cause.BadForm
 
--- the words from the first that is no input on
+-- the words from the first one on that is not an input
 unfoldable pub after_inputs : List (List ℕ) → List (List ℕ)
 after_inputs [] = []
 after_inputs (word ∷ words) = if is_input word then after_inputs words else word ∷ words

@@ -149,7 +149,7 @@ fn writers_line(words: &[&[u8]]) -> Result<Statement, LineFault>
     Ok(Statement::Setup(Setup::Writers(limit as u32)))
 }
 
-/// The words from the first that is no input on.
+/// The words from the first one on that is not an input.
 #[tactic(auto, unfolding(crate::specs::Lines::after_inputs))]
 fn after_inputs<'a, 'b>(words: &'b [&'a [u8]]) -> &'b [&'a [u8]]
     ensures { map (λ w. w.now) result.now ≡ after_inputs (map (λ w. w.now) words.now) }

@@ -47,7 +47,7 @@ module _ {X : Type 0} where
       let r = total_le f g xs (λ i u at'. le (suc i) u at') in omega (arith, r)
   total_gap f g (x ∷ xs) (suc i) v at le = let h = le 0 x refl in let r = total_gap f g xs i v at (λ j u at'. le (suc j) u at') in omega (arith, h, r)
 
-  -- if f is no more than g, g is 1 in all, and one item has g and no f, then none has f
+  -- if f is at most g, g is 1 in all, and one item has g and no f, then none has f
   pub total_below : (f g : X → ℕ) (l : List X) (i : ℕ) (v : X) → get_elem? l i ≡ some v → ((j : ℕ) (u : X) → get_elem? l j ≡ some u → f u ≤ g u) → total g l ≤ 1 → 0 < g v → f v ≡ 0 → total f l ≡ 0
   total_below f g l i v at le once has none = let h = total_gap f g l i v at le in omega (arith, h)
 

@@ -169,7 +169,7 @@ EndsJournal accepts scene m told told' left left' held held' r r' w w' k k' stat
 abbrev pub HasHead : Option History → ℕ → List ℕ → Head → Type 0
 HasHead told m text it = IfTold told (λ h. it ≡ head_of_file m (genesis_digest text) h.now.reads)
 
--- the head of the disk lets no member start for this reason: it is no journal, another member's or another set-up's,
+-- the head of the disk lets no member start for this reason: it is not a journal, or another member's or another set-up's,
 -- or it was not read
 abbrev pub IsHeadRefused : Unstarted → Option History → ℕ → List ℕ → ℕ → ℕ → Type 0
 IsHeadRefused (unstarted.Refused start.NotMade) told m text k k' = HasHead told m text head.Unmade

@@ -29,7 +29,7 @@ ended line = line ++ 10 ∷ []
 
 -- ---- one line
 
--- the request that a line is, none if it is no request or too long
+-- the request that a line is, none if it is not a request or too long
 abbrev pub request_in : List ℕ → Option Request
 request_in line = if nat_le (length line) longest_line then request_of line else None
 
@@ -112,7 +112,7 @@ pub record Serves (accepts : Accepting) (xs : List Exchange) (old new : Around) 
 
 -- ---- one line more
 
--- a line was answered (`q` is its request, none if it is no request): the answer is written, and its record is kept
+-- a line was answered (`q` is its request, none if it is not one): the answer is written, and its record is kept
 pub record IsServed (accepts : Accepting) (q : Option Request) (held held' : Option (List ℕ)) (kept kept' : Option Journals) (seat seat' : Seated) : Type 0 where
   pub text : List ℕ
   pub answers : IsAnswer accepts seat q text

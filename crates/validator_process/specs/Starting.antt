@@ -19,7 +19,7 @@ use Rattle.validator_process.specs.declared.stop.Stop.TheVariants as stop
 use Rattle.validator_process.specs.Genesis.{ready_line, scene_of, started_in}
 use Rattle.validator_process.specs.Serving.{ServesAll, ServesSome, around, ended}
 
--- a stop that is no fault of source or sink
+-- a stop that is not a fault of source or sink
 abbrev pub IsInside : Stop → Type 0
 IsInside stop.ReadFault = ⊥
 IsInside stop.WriteFault = ⊥

@@ -49,7 +49,7 @@ pub(crate) fn identity_of(
 pub(crate) enum Head {
     /// The file is a journal of this member and this set-up.
     Own,
-    /// The file is no journal, or one whose making was cut off.
+    /// The file is not a journal, or its making was cut off.
     Unmade,
     OtherMember,
     OtherGenesis,

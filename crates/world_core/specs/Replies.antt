@@ -109,7 +109,7 @@ abbrev pub KeptWhere : {A E : Type 0} → Bool → Option Journals → Option Jo
 KeptWhere true before now m bytes result = AddsBytes before now m bytes result
 KeptWhere false before now m bytes result = KeepsJournals before now
 
--- ---- refusals that are no answers: the fault that each stands for
+-- ---- refusals that are not answers: the fault that each stands for
 
 abbrev pub vote_fault : Result Sent VoteRefusal → Option SeatFault
 vote_fault (Err no_vote.KeepFault) = Some faults.KeepFault

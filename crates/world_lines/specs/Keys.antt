@@ -27,7 +27,7 @@ abbrev pub ack_key_eq : AckKey → AckKey → Bool
 ack_key_eq a b = (a.member == b.member) && (a.epoch == b.epoch) && digest_eq a.tx b.tx
 
 -- the key under which a member's statement stands in the table of votes, of Ends (the member alone), and of
--- acknowledgements; none if it is no such statement
+-- acknowledgements; none if it is not such a statement
 abbrev pub key_of_vote : ℕ → Statement → Option VoteKey
 key_of_vote m (statement.Vote epoch tx origins) = Some (vote_key m epoch tx)
 key_of_vote m (statement.End epoch) = None
