@@ -10,7 +10,7 @@ ghost use Rattle.chain_messages.specs.Encoded.{IsTxOf};
 use crate::messages::{Certificate, Entry, Sealed};
 use chain_types::Transaction;
 use std::alloc::Global;
-use wire_bcs::{Reader, Seq, Unread, Wire, read_encoded};
+use wire_bcs::{Reader, Unread, Wire, read_encoded};
 
 #[tactic(auto, unfolding(crate::specs::Messages::certificate))]
 fn read_certificate<'a>(
@@ -22,8 +22,7 @@ fn read_certificate<'a>(
     ensures tx { IfOk result (λ x. x.1.now ≡ transaction.spell x.0.tx) }
 {
     let (tx, bytes) = read_encoded::<Transaction>(alloc, reader)?;
-    let origins = Seq::read_from(alloc, reader)?;
-    let seals = Seq::read_from(alloc, reader)?;
+    let (origins, seals) = Wire::read_from(alloc, reader)?;
     Ok((Certificate { tx, origins, seals }, bytes))
 }
 

@@ -6,10 +6,11 @@ ghost use Rattle.wire_bcs.specs.Gives.{Decodes};
 ghost use Rattle.chain_messages.specs.Messages as codecs;
 
 use crate::messages::{Certificate, Entry, MemberSeal, Sealed, Statement};
-use chain_types::Transaction;
-use digest_core::Digest;
 use std::alloc::Global;
-use wire_bcs::{Duplicate, OutOfMemory, Reader, Seq, Unread, Wire, Writer, decode, encode};
+use wire_bcs::{
+    Duplicate, OutOfMemory, Reader, Seq, Unread, Wire, Writer, decode, encode, put_variant,
+    put_variant_of_three,
+};
 
 #[tactic(auto, using(wire_bcs::specs::Wrote::parts), unfolding(crate::specs::Messages::statement))]
 impl Wire for Statement {
@@ -18,34 +19,16 @@ impl Wire for Statement {
     fn write_into(&self, writer: &mut Writer) -> Result<(), OutOfMemory> {
         match self {
             Statement::Vote { epoch, tx, origins } => {
-                writer.put_tag(0)?;
-                writer.put_u64(*epoch)?;
-                tx.write_into(writer)?;
-                origins.write_into(writer)?;
-                Ok(())
+                put_variant_of_three(writer, 0, epoch, tx, origins)
             }
-            Statement::End { epoch } => {
-                writer.put_tag(1)?;
-                writer.put_u64(*epoch)?;
-                Ok(())
-            }
+            Statement::End { epoch } => put_variant(writer, 1, epoch),
             Statement::Checkpoint {
                 epoch,
                 number,
                 digest,
-            } => {
-                writer.put_tag(2)?;
-                writer.put_u64(*epoch)?;
-                writer.put_u64(*number)?;
-                digest.write_into(writer)?;
-                Ok(())
-            }
+            } => put_variant_of_three(writer, 2, epoch, number, digest),
             Statement::Ack { epoch, tx, effects } => {
-                writer.put_tag(3)?;
-                writer.put_u64(*epoch)?;
-                tx.write_into(writer)?;
-                effects.write_into(writer)?;
-                Ok(())
+                put_variant_of_three(writer, 3, epoch, tx, effects)
             }
         }
     }
@@ -53,9 +36,7 @@ impl Wire for Statement {
     fn read_from(alloc: Global, reader: &mut Reader) -> Result<Self, Unread> {
         match reader.tag(4)? {
             0 => {
-                let epoch = reader.u64()?;
-                let tx = Digest::read_from(alloc, reader)?;
-                let origins = Seq::read_from(alloc, reader)?;
+                let (epoch, (tx, origins)) = Wire::read_from(alloc, reader)?;
                 Ok(Statement::Vote { epoch, tx, origins })
             }
             1 => {
@@ -63,9 +44,7 @@ impl Wire for Statement {
                 Ok(Statement::End { epoch })
             }
             2 => {
-                let epoch = reader.u64()?;
-                let number = reader.u64()?;
-                let digest = Digest::read_from(alloc, reader)?;
+                let (epoch, (number, digest)) = Wire::read_from(alloc, reader)?;
                 Ok(Statement::Checkpoint {
                     epoch,
                     number,
@@ -73,9 +52,7 @@ impl Wire for Statement {
                 })
             }
             _ => {
-                let epoch = reader.u64()?;
-                let tx = Digest::read_from(alloc, reader)?;
-                let effects = Digest::read_from(alloc, reader)?;
+                let (epoch, (tx, effects)) = Wire::read_from(alloc, reader)?;
                 Ok(Statement::Ack { epoch, tx, effects })
             }
         }
@@ -121,9 +98,7 @@ impl Wire for Sealed {
     }
 
     fn read_from(alloc: Global, reader: &mut Reader) -> Result<Self, Unread> {
-        let member = reader.u32()?;
-        let statement = Statement::read_from(alloc, reader)?;
-        let seal = Digest::read_from(alloc, reader)?;
+        let (member, (statement, seal)) = Wire::read_from(alloc, reader)?;
         Ok(Sealed {
             member,
             statement,
@@ -153,8 +128,7 @@ impl Wire for MemberSeal {
     }
 
     fn read_from(alloc: Global, reader: &mut Reader) -> Result<Self, Unread> {
-        let member = reader.u32()?;
-        let seal = Digest::read_from(alloc, reader)?;
+        let (member, seal) = Wire::read_from(alloc, reader)?;
         Ok(MemberSeal { member, seal })
     }
 }
@@ -171,9 +145,7 @@ impl Wire for Certificate {
     }
 
     fn read_from(alloc: Global, reader: &mut Reader) -> Result<Self, Unread> {
-        let tx = Transaction::read_from(alloc, reader)?;
-        let origins = Seq::read_from(alloc, reader)?;
-        let seals = Seq::read_from(alloc, reader)?;
+        let (tx, (origins, seals)) = Wire::read_from(alloc, reader)?;
         Ok(Certificate { tx, origins, seals })
     }
 }
@@ -194,16 +166,8 @@ impl Wire for Entry {
 
     fn write_into(&self, writer: &mut Writer) -> Result<(), OutOfMemory> {
         match self {
-            Entry::Cert(cert) => {
-                writer.put_tag(0)?;
-                cert.write_into(writer)?;
-                Ok(())
-            }
-            Entry::End(sealed) => {
-                writer.put_tag(1)?;
-                sealed.write_into(writer)?;
-                Ok(())
-            }
+            Entry::Cert(cert) => put_variant(writer, 0, cert),
+            Entry::End(sealed) => put_variant(writer, 1, sealed),
             Entry::Commit => {
                 writer.put_tag(2)?;
                 Ok(())

@@ -1,12 +1,13 @@
 //! Objects on the wire, and their digests.
 
 ghost use Rattle.std.specs.Prelude.{◌≡◌};
+ghost use Rattle.wire_bcs.specs.Uleb.{uleb};
 ghost use Rattle.chain_types.specs.Objects as codecs;
 
 use crate::objects::{Address, Content, Kind, Object, ObjectId, ObjectRef, Owner};
 use digest_core::Digest;
 use std::alloc::Global;
-use wire_bcs::{OutOfMemory, Reader, Unread, Wire, Writer};
+use wire_bcs::{OutOfMemory, Reader, Unread, Wire, Writer, put_variant, put_variant_of_two};
 
 #[tactic(auto, using(wire_bcs::specs::Wrote::parts), unfolding(crate::specs::Objects::object_id))]
 impl Wire for ObjectId {
@@ -50,9 +51,7 @@ impl Wire for ObjectRef {
     }
 
     fn read_from(alloc: Global, reader: &mut Reader) -> Result<Self, Unread> {
-        let id = ObjectId::read_from(alloc, reader)?;
-        let version = reader.u64()?;
-        let digest = Digest::read_from(alloc, reader)?;
+        let (id, (version, digest)) = Wire::read_from(alloc, reader)?;
         Ok(ObjectRef {
             id,
             version,
@@ -67,16 +66,8 @@ impl Wire for Owner {
 
     fn write_into(&self, writer: &mut Writer) -> Result<(), OutOfMemory> {
         match self {
-            Owner::Address(address) => {
-                writer.put_tag(0)?;
-                address.write_into(writer)?;
-                Ok(())
-            }
-            Owner::Shared(initial) => {
-                writer.put_tag(1)?;
-                writer.put_u64(*initial)?;
-                Ok(())
-            }
+            Owner::Address(address) => put_variant(writer, 0, address),
+            Owner::Shared(initial) => put_variant(writer, 1, initial),
             Owner::Immutable => {
                 writer.put_tag(2)?;
                 Ok(())
@@ -99,37 +90,29 @@ impl Wire for Owner {
     }
 }
 
+impl Kind {
+    /// The variant number.
+    #[tactic(auto, unfolding(crate::specs::Objects::kind))]
+    fn number(&self) -> u32
+        ensures { uleb result ≡ codecs.kind.spell self.now }
+    {
+        match self {
+            Kind::Coin => 0,
+            Kind::Cap => 1,
+            Kind::Counter => 2,
+            Kind::Vault => 3,
+            Kind::VaultKey => 4,
+            Kind::Limit => 5,
+        }
+    }
+}
+
 #[tactic(auto, using(wire_bcs::specs::Wrote::parts), unfolding(crate::specs::Objects::kind))]
 impl Wire for Kind {
     ghost codec = { codecs.kind };
 
     fn write_into(&self, writer: &mut Writer) -> Result<(), OutOfMemory> {
-        match self {
-            Kind::Coin => {
-                writer.put_tag(0)?;
-                Ok(())
-            }
-            Kind::Cap => {
-                writer.put_tag(1)?;
-                Ok(())
-            }
-            Kind::Counter => {
-                writer.put_tag(2)?;
-                Ok(())
-            }
-            Kind::Vault => {
-                writer.put_tag(3)?;
-                Ok(())
-            }
-            Kind::VaultKey => {
-                writer.put_tag(4)?;
-                Ok(())
-            }
-            Kind::Limit => {
-                writer.put_tag(5)?;
-                Ok(())
-            }
-        }
+        writer.put_tag(self.number())
     }
 
     fn read_from(_alloc: Global, reader: &mut Reader) -> Result<Self, Unread> {
@@ -151,51 +134,26 @@ impl Wire for Content {
     fn write_into(&self, writer: &mut Writer) -> Result<(), OutOfMemory> {
         match self {
             Content::Coin { currency, balance } => {
-                writer.put_tag(0)?;
-                writer.put_u64(*currency)?;
-                writer.put_u64(*balance)?;
-                Ok(())
+                put_variant_of_two(writer, 0, currency, balance)
             }
-            Content::Cap { currency, supply } => {
-                writer.put_tag(1)?;
-                writer.put_u64(*currency)?;
-                writer.put_u64(*supply)?;
-                Ok(())
-            }
-            Content::Counter { value } => {
-                writer.put_tag(2)?;
-                writer.put_u64(*value)?;
-                Ok(())
-            }
+            Content::Cap { currency, supply } => put_variant_of_two(writer, 1, currency, supply),
+            Content::Counter { value } => put_variant(writer, 2, value),
             Content::Vault { currency, balance } => {
-                writer.put_tag(3)?;
-                writer.put_u64(*currency)?;
-                writer.put_u64(*balance)?;
-                Ok(())
+                put_variant_of_two(writer, 3, currency, balance)
             }
-            Content::VaultKey { vault } => {
-                writer.put_tag(4)?;
-                vault.write_into(writer)?;
-                Ok(())
-            }
-            Content::Limit { value } => {
-                writer.put_tag(5)?;
-                writer.put_u64(*value)?;
-                Ok(())
-            }
+            Content::VaultKey { vault } => put_variant(writer, 4, vault),
+            Content::Limit { value } => put_variant(writer, 5, value),
         }
     }
 
     fn read_from(alloc: Global, reader: &mut Reader) -> Result<Self, Unread> {
         match reader.tag(6)? {
             0 => {
-                let currency = reader.u64()?;
-                let balance = reader.u64()?;
+                let (currency, balance) = Wire::read_from(alloc, reader)?;
                 Ok(Content::Coin { currency, balance })
             }
             1 => {
-                let currency = reader.u64()?;
-                let supply = reader.u64()?;
+                let (currency, supply) = Wire::read_from(alloc, reader)?;
                 Ok(Content::Cap { currency, supply })
             }
             2 => {
@@ -203,8 +161,7 @@ impl Wire for Content {
                 Ok(Content::Counter { value })
             }
             3 => {
-                let currency = reader.u64()?;
-                let balance = reader.u64()?;
+                let (currency, balance) = Wire::read_from(alloc, reader)?;
                 Ok(Content::Vault { currency, balance })
             }
             4 => {
@@ -232,10 +189,7 @@ impl Wire for Object {
     }
 
     fn read_from(alloc: Global, reader: &mut Reader) -> Result<Self, Unread> {
-        let id = ObjectId::read_from(alloc, reader)?;
-        let version = reader.u64()?;
-        let owner = Owner::read_from(alloc, reader)?;
-        let content = Content::read_from(alloc, reader)?;
+        let (id, (version, (owner, content))) = Wire::read_from(alloc, reader)?;
         Ok(Object {
             id,
             version,

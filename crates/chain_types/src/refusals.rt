@@ -6,7 +6,7 @@ use std::{error, fmt};
 use wire_bcs::OutOfMemory;
 
 /// Why a member does not vote for a transaction, in the order in which the cases are tried.
-#[derive(Clone, Copy, Debug, PartialEq, Eq)]
+#[derive(Clone, Copy, PartialEq, Eq)]
 pub enum DecideRefusal {
     /// A named version is not held.
     Absent(ObjectKey),
@@ -24,7 +24,7 @@ pub enum DecideRefusal {
 }
 
 /// Why a certificate is not valid, in the order in which the cases are tried.
-#[derive(Clone, Copy, Debug, PartialEq, Eq)]
+#[derive(Clone, Copy, PartialEq, Eq)]
 pub enum CertRefusal {
     /// The shape's fault, 1 to 12, or 13 if there is not one origin for each object.
     Shape(u8),
@@ -51,7 +51,7 @@ impl fmt::Display for DecideRefusal {
             DecideRefusal::Locked { key, by } => {
                 write!(f, "the member has voted for {by}, which consumes {key}")
             }
-            DecideRefusal::OutOfMemory => write!(f, "{OutOfMemory}"),
+            DecideRefusal::OutOfMemory => fmt::Display::fmt(&OutOfMemory, f),
         }
     }
 }
@@ -72,8 +72,20 @@ impl fmt::Display for CertRefusal {
             CertRefusal::BadSeal { member } => {
                 write!(f, "the seal of member {member} is not accepted")
             }
-            CertRefusal::OutOfMemory => write!(f, "{OutOfMemory}"),
+            CertRefusal::OutOfMemory => fmt::Display::fmt(&OutOfMemory, f),
         }
+    }
+}
+
+impl fmt::Debug for DecideRefusal {
+    fn fmt<W: fmt::Write>(&self, f: &mut fmt::Formatter<W>) -> fmt::Result {
+        fmt::Display::fmt(self, f)
+    }
+}
+
+impl fmt::Debug for CertRefusal {
+    fn fmt<W: fmt::Write>(&self, f: &mut fmt::Formatter<W>) -> fmt::Result {
+        fmt::Display::fmt(self, f)
     }
 }
 

@@ -6,12 +6,13 @@ ghost use Rattle.wire_bcs.specs.Gives.{Decodes};
 ghost use Rattle.chain_types.specs.Transactions as codecs;
 ghost use Rattle.chain_types.specs.Digests.{transaction_digest};
 
-use crate::objects::{Address, Kind, ObjectId, ObjectRef};
+use crate::objects::ObjectRef;
 use crate::transactions::{Argument, Command, Input, SignedTx, Transaction};
 use digest_core::{Digest, TAG_TRANSACTION, digest_of};
 use std::alloc::Global;
 use wire_bcs::{
     Duplicate, FaultKind, OutOfMemory, Reader, Seq, Unread, Wire, Writer, decode, encode,
+    put_variant, put_variant_of_three, put_variant_of_two,
 };
 
 #[tactic(auto, using(wire_bcs::specs::Wrote::parts), unfolding(crate::specs::Transactions::input))]
@@ -25,27 +26,13 @@ impl Wire for Input {
                 writer.put_bytes(bytes.as_slice())?;
                 Ok(())
             }
-            Input::Owned(reference) => {
-                writer.put_tag(1)?;
-                reference.write_into(writer)?;
-                Ok(())
-            }
-            Input::Immutable(reference) => {
-                writer.put_tag(2)?;
-                reference.write_into(writer)?;
-                Ok(())
-            }
+            Input::Owned(reference) => put_variant(writer, 1, reference),
+            Input::Immutable(reference) => put_variant(writer, 2, reference),
             Input::Shared {
                 id,
                 initial,
                 mutable,
-            } => {
-                writer.put_tag(3)?;
-                id.write_into(writer)?;
-                writer.put_u64(*initial)?;
-                writer.put_bool(*mutable)?;
-                Ok(())
-            }
+            } => put_variant_of_three(writer, 3, id, initial, mutable),
         }
     }
 
@@ -64,9 +51,7 @@ impl Wire for Input {
                 Ok(Input::Immutable(reference))
             }
             _ => {
-                let id = ObjectId::read_from(alloc, reader)?;
-                let initial = reader.u64()?;
-                let mutable = reader.bool()?;
+                let (id, (initial, mutable)) = Wire::read_from(alloc, reader)?;
                 Ok(Input::Shared {
                     id,
                     initial,
@@ -106,26 +91,13 @@ impl Wire for Argument {
                 writer.put_tag(0)?;
                 Ok(())
             }
-            Argument::Input(input) => {
-                writer.put_tag(1)?;
-                writer.put_u16(*input)?;
-                Ok(())
-            }
-            Argument::Result(command) => {
-                writer.put_tag(2)?;
-                writer.put_u16(*command)?;
-                Ok(())
-            }
-            Argument::Nested(command, result) => {
-                writer.put_tag(3)?;
-                writer.put_u16(*command)?;
-                writer.put_u16(*result)?;
-                Ok(())
-            }
+            Argument::Input(input) => put_variant(writer, 1, input),
+            Argument::Result(command) => put_variant(writer, 2, command),
+            Argument::Nested(command, result) => put_variant_of_two(writer, 3, command, result),
         }
     }
 
-    fn read_from(_alloc: Global, reader: &mut Reader) -> Result<Self, Unread> {
+    fn read_from(alloc: Global, reader: &mut Reader) -> Result<Self, Unread> {
         match reader.tag(4)? {
             0 => Ok(Argument::Gas),
             1 => {
@@ -137,8 +109,7 @@ impl Wire for Argument {
                 Ok(Argument::Result(command))
             }
             _ => {
-                let command = reader.u16()?;
-                let result = reader.u16()?;
+                let (command, result) = Wire::read_from(alloc, reader)?;
                 Ok(Argument::Nested(command, result))
             }
         }
@@ -151,36 +122,11 @@ impl Wire for Command {
 
     fn write_into(&self, writer: &mut Writer) -> Result<(), OutOfMemory> {
         match self {
-            Command::Call { native, args } => {
-                writer.put_tag(0)?;
-                writer.put_u8(*native)?;
-                args.write_into(writer)?;
-                Ok(())
-            }
-            Command::Transfer { values, to } => {
-                writer.put_tag(1)?;
-                values.write_into(writer)?;
-                to.write_into(writer)?;
-                Ok(())
-            }
-            Command::Split { coin, amounts } => {
-                writer.put_tag(2)?;
-                coin.write_into(writer)?;
-                amounts.write_into(writer)?;
-                Ok(())
-            }
-            Command::Merge { target, sources } => {
-                writer.put_tag(3)?;
-                target.write_into(writer)?;
-                sources.write_into(writer)?;
-                Ok(())
-            }
-            Command::MakeVec { kind, values } => {
-                writer.put_tag(5)?;
-                kind.write_into(writer)?;
-                values.write_into(writer)?;
-                Ok(())
-            }
+            Command::Call { native, args } => put_variant_of_two(writer, 0, native, args),
+            Command::Transfer { values, to } => put_variant_of_two(writer, 1, values, to),
+            Command::Split { coin, amounts } => put_variant_of_two(writer, 2, coin, amounts),
+            Command::Merge { target, sources } => put_variant_of_two(writer, 3, target, sources),
+            Command::MakeVec { kind, values } => put_variant_of_two(writer, 5, kind, values),
         }
     }
 
@@ -188,28 +134,23 @@ impl Wire for Command {
         let start = reader.mark();
         match reader.tag(6)? {
             0 => {
-                let native = reader.u8()?;
-                let args = Seq::read_from(alloc, reader)?;
+                let (native, args) = Wire::read_from(alloc, reader)?;
                 Ok(Command::Call { native, args })
             }
             1 => {
-                let values = Seq::read_from(alloc, reader)?;
-                let to = Argument::read_from(alloc, reader)?;
+                let (values, to) = Wire::read_from(alloc, reader)?;
                 Ok(Command::Transfer { values, to })
             }
             2 => {
-                let coin = Argument::read_from(alloc, reader)?;
-                let amounts = Seq::read_from(alloc, reader)?;
+                let (coin, amounts) = Wire::read_from(alloc, reader)?;
                 Ok(Command::Split { coin, amounts })
             }
             3 => {
-                let target = Argument::read_from(alloc, reader)?;
-                let sources = Seq::read_from(alloc, reader)?;
+                let (target, sources) = Wire::read_from(alloc, reader)?;
                 Ok(Command::Merge { target, sources })
             }
             5 => {
-                let kind = Kind::read_from(alloc, reader)?;
-                let values = Seq::read_from(alloc, reader)?;
+                let (kind, values) = Wire::read_from(alloc, reader)?;
                 Ok(Command::MakeVec { kind, values })
             }
             // There is no variant 4.
@@ -263,12 +204,9 @@ impl Wire for Transaction {
     }
 
     fn read_from(alloc: Global, reader: &mut Reader) -> Result<Self, Unread> {
-        let epoch = reader.u64()?;
-        let sender = Address::read_from(alloc, reader)?;
-        let gas = ObjectRef::read_from(alloc, reader)?;
-        let budget = reader.u64()?;
-        let inputs = Seq::read_from(alloc, reader)?;
-        let commands = Seq::read_from(alloc, reader)?;
+        let (epoch, (sender, (gas, (budget, (inputs, commands))))) = Wire::read_from(
+            alloc, reader,
+        )?;
         Ok(Transaction {
             epoch,
             sender,
@@ -304,8 +242,7 @@ impl Wire for SignedTx {
     }
 
     fn read_from(alloc: Global, reader: &mut Reader) -> Result<Self, Unread> {
-        let tx = Transaction::read_from(alloc, reader)?;
-        let seal = Digest::read_from(alloc, reader)?;
+        let (tx, seal) = Wire::read_from(alloc, reader)?;
         Ok(SignedTx { tx, seal })
     }
 }

@@ -6,7 +6,7 @@ ghost use Rattle.checkpoint_core.specs.Checkpoints as codecs;
 use crate::checkpoints::{Checkpoint, Item};
 use digest_core::{Digest, TAG_CHECKPOINT, digest_of};
 use std::alloc::Global;
-use wire_bcs::{Duplicate, OutOfMemory, Reader, Seq, Unread, Wire, Writer, encode};
+use wire_bcs::{Duplicate, OutOfMemory, Reader, Unread, Wire, Writer, encode};
 
 #[tactic(auto, using(wire_bcs::specs::Wrote::parts), unfolding(crate::specs::Checkpoints::item))]
 impl Wire for Item {
@@ -19,8 +19,7 @@ impl Wire for Item {
     }
 
     fn read_from(alloc: Global, reader: &mut Reader) -> Result<Self, Unread> {
-        let tx = Digest::read_from(alloc, reader)?;
-        let effects = Digest::read_from(alloc, reader)?;
+        let (tx, effects) = Wire::read_from(alloc, reader)?;
         Ok(Item { tx, effects })
     }
 }
@@ -39,11 +38,7 @@ impl Wire for Checkpoint {
     }
 
     fn read_from(alloc: Global, reader: &mut Reader) -> Result<Self, Unread> {
-        let epoch = reader.u64()?;
-        let number = reader.u64()?;
-        let parent = Digest::read_from(alloc, reader)?;
-        let items = Seq::read_from(alloc, reader)?;
-        let last = reader.bool()?;
+        let (epoch, (number, (parent, (items, last)))) = Wire::read_from(alloc, reader)?;
         Ok(Checkpoint {
             epoch,
             number,

@@ -4,10 +4,9 @@ ghost use Rattle.std.specs.Prelude.{◌≡◌, IfOk, false, true};
 ghost use Rattle.effects_core.specs.Effects as codecs;
 
 use crate::effects::{Effects, Status, Written};
-use chain_types::{ObjectId, Owner};
 use digest_core::{Digest, TAG_EFFECTS, digest_of};
 use std::alloc::Global;
-use wire_bcs::{Duplicate, OutOfMemory, Reader, Seq, Unread, Wire, Writer, encode};
+use wire_bcs::{Duplicate, OutOfMemory, Reader, Unread, Wire, Writer, encode, put_variant_of_two};
 
 #[tactic(auto, using(wire_bcs::specs::Wrote::parts), unfolding(crate::specs::Effects::status))]
 impl Wire for Status {
@@ -19,32 +18,20 @@ impl Wire for Status {
                 writer.put_tag(0)?;
                 Ok(())
             }
-            Status::Failed { command, cause } => {
-                writer.put_tag(1)?;
-                writer.put_u16(*command)?;
-                writer.put_u8(*cause)?;
-                Ok(())
-            }
-            Status::Aborted { command, code } => {
-                writer.put_tag(2)?;
-                writer.put_u16(*command)?;
-                writer.put_u8(*code)?;
-                Ok(())
-            }
+            Status::Failed { command, cause } => put_variant_of_two(writer, 1, command, cause),
+            Status::Aborted { command, code } => put_variant_of_two(writer, 2, command, code),
         }
     }
 
-    fn read_from(_alloc: Global, reader: &mut Reader) -> Result<Self, Unread> {
+    fn read_from(alloc: Global, reader: &mut Reader) -> Result<Self, Unread> {
         match reader.tag(3)? {
             0 => Ok(Status::Done),
             1 => {
-                let command = reader.u16()?;
-                let cause = reader.u8()?;
+                let (command, cause) = Wire::read_from(alloc, reader)?;
                 Ok(Status::Failed { command, cause })
             }
             _ => {
-                let command = reader.u16()?;
-                let code = reader.u8()?;
+                let (command, code) = Wire::read_from(alloc, reader)?;
                 Ok(Status::Aborted { command, code })
             }
         }
@@ -63,9 +50,7 @@ impl Wire for Written {
     }
 
     fn read_from(alloc: Global, reader: &mut Reader) -> Result<Self, Unread> {
-        let id = ObjectId::read_from(alloc, reader)?;
-        let owner = Owner::read_from(alloc, reader)?;
-        let digest = Digest::read_from(alloc, reader)?;
+        let (id, (owner, digest)) = Wire::read_from(alloc, reader)?;
         Ok(Written { id, owner, digest })
     }
 }
@@ -86,13 +71,9 @@ impl Wire for Effects {
     }
 
     fn read_from(alloc: Global, reader: &mut Reader) -> Result<Self, Unread> {
-        let tx = Digest::read_from(alloc, reader)?;
-        let status = Status::read_from(alloc, reader)?;
-        let version = reader.u64()?;
-        let gas = reader.u64()?;
-        let created = reader.u32()?;
-        let written = Seq::read_from(alloc, reader)?;
-        let deleted = Seq::read_from(alloc, reader)?;
+        let (tx, (status, (version, (gas, (created, (written, deleted)))))) = Wire::read_from(
+            alloc, reader,
+        )?;
         Ok(Effects {
             tx,
             status,

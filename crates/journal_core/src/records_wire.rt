@@ -7,10 +7,11 @@ ghost use Rattle.journal_core.specs.Records as codecs;
 
 use crate::records::{RanItem, Record};
 use chain_messages::Certificate;
-use chain_types::Transaction;
-use digest_core::Digest;
 use std::alloc::Global;
-use wire_bcs::{Duplicate, OutOfMemory, Reader, Seq, Unread, Wire, Writer, decode, encode};
+use wire_bcs::{
+    Duplicate, OutOfMemory, Reader, Seq, Unread, Wire, Writer, decode, encode, put_variant,
+    put_variant_of_two,
+};
 
 #[tactic(auto, using(wire_bcs::specs::Wrote::parts), unfolding(crate::specs::Records::ran_item))]
 impl Wire for RanItem {
@@ -23,8 +24,7 @@ impl Wire for RanItem {
     }
 
     fn read_from(alloc: Global, reader: &mut Reader) -> Result<Self, Unread> {
-        let tx = Digest::read_from(alloc, reader)?;
-        let effects = Digest::read_from(alloc, reader)?;
+        let (tx, effects) = Wire::read_from(alloc, reader)?;
         Ok(RanItem { tx, effects })
     }
 }
@@ -35,17 +35,8 @@ impl Wire for Record {
 
     fn write_into(&self, writer: &mut Writer) -> Result<(), OutOfMemory> {
         match self {
-            Record::Vote { tx, origins } => {
-                writer.put_tag(0)?;
-                tx.write_into(writer)?;
-                origins.write_into(writer)?;
-                Ok(())
-            }
-            Record::Hold(cert) => {
-                writer.put_tag(1)?;
-                cert.write_into(writer)?;
-                Ok(())
-            }
+            Record::Vote { tx, origins } => put_variant_of_two(writer, 0, tx, origins),
+            Record::Hold(cert) => put_variant(writer, 1, cert),
             Record::See(bytes) => {
                 writer.put_tag(2)?;
                 writer.put_bytes(bytes.as_slice())?;
@@ -55,28 +46,19 @@ impl Wire for Record {
                 writer.put_tag(3)?;
                 Ok(())
             }
-            Record::Ran(ran) => {
-                writer.put_tag(4)?;
-                ran.write_into(writer)?;
-                Ok(())
-            }
+            Record::Ran(ran) => put_variant(writer, 4, ran),
             Record::Turn => {
                 writer.put_tag(5)?;
                 Ok(())
             }
-            Record::Ran2(ran) => {
-                writer.put_tag(6)?;
-                ran.write_into(writer)?;
-                Ok(())
-            }
+            Record::Ran2(ran) => put_variant(writer, 6, ran),
         }
     }
 
     fn read_from(alloc: Global, reader: &mut Reader) -> Result<Self, Unread> {
         match reader.tag(7)? {
             0 => {
-                let tx = Transaction::read_from(alloc, reader)?;
-                let origins = Seq::read_from(alloc, reader)?;
+                let (tx, origins) = Wire::read_from(alloc, reader)?;
                 Ok(Record::Vote { tx, origins })
             }
             1 => {

@@ -6,7 +6,7 @@ use digest_core::Digest;
 
 /// Where a native is called: the transaction, the version at which it writes, and the number of the
 /// next creation, which is far from the end of its type.
-#[derive(Clone, Copy, Debug)]
+#[derive(Clone, Copy)]
 pub(crate) struct Place {
     pub(crate) tx: Digest,
     pub(crate) version: u64,

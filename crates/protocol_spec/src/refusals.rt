@@ -7,7 +7,7 @@ use digest_core::Digest;
 use wire_bcs::WireFault;
 
 /// Why a member does not start from its records.
-#[derive(Clone, Copy, Debug, PartialEq, Eq)]
+#[derive(Clone, Copy, PartialEq, Eq)]
 pub enum StartRefusal {
     /// The first record that does not decode (1), or that no call would have appended (2).
     BadRecord { place: u64, why: u8 },
@@ -15,7 +15,7 @@ pub enum StartRefusal {
 }
 
 /// Why a member does not vote.
-#[derive(Clone, Copy, Debug, PartialEq, Eq)]
+#[derive(Clone, Copy, PartialEq, Eq)]
 pub enum VoteRefusal {
     Down,
     Halted { first: Digest, second: Digest },
@@ -40,7 +40,7 @@ pub enum VoteRefusal {
 }
 
 /// Why a member does not hold a certificate.
-#[derive(Clone, Copy, Debug, PartialEq, Eq)]
+#[derive(Clone, Copy, PartialEq, Eq)]
 pub enum HoldRefusal {
     Down,
     Halted {
@@ -66,7 +66,7 @@ pub enum HoldRefusal {
 }
 
 /// Why a member does not take an entry of the sequence.
-#[derive(Clone, Copy, Debug, PartialEq, Eq)]
+#[derive(Clone, Copy, PartialEq, Eq)]
 pub enum SeeRefusal {
     Down,
     Halted {
@@ -91,7 +91,7 @@ pub enum SeeRefusal {
 }
 
 /// Why a member does not run.
-#[derive(Clone, Copy, Debug, PartialEq, Eq)]
+#[derive(Clone, Copy, PartialEq, Eq)]
 pub enum RunRefusal {
     Down,
     Halted { first: Digest, second: Digest },
@@ -101,7 +101,7 @@ pub enum RunRefusal {
 }
 
 /// Why a member does not close.
-#[derive(Clone, Copy, Debug, PartialEq, Eq)]
+#[derive(Clone, Copy, PartialEq, Eq)]
 pub enum CloseRefusal {
     Down,
     Halted { first: Digest, second: Digest },
@@ -111,7 +111,7 @@ pub enum CloseRefusal {
 }
 
 /// Why a member does not state its End.
-#[derive(Clone, Copy, Debug, PartialEq, Eq)]
+#[derive(Clone, Copy, PartialEq, Eq)]
 pub enum EndRefusal {
     Down,
     Halted { first: Digest, second: Digest },
@@ -122,7 +122,7 @@ pub enum EndRefusal {
 }
 
 /// Why a member does not turn to the next epoch.
-#[derive(Clone, Copy, Debug, PartialEq, Eq)]
+#[derive(Clone, Copy, PartialEq, Eq)]
 pub enum TurnRefusal {
     Down,
     Halted { first: Digest, second: Digest },
@@ -135,7 +135,7 @@ pub enum TurnRefusal {
 }
 
 /// Why a member does not acknowledge.
-#[derive(Clone, Copy, Debug, PartialEq, Eq)]
+#[derive(Clone, Copy, PartialEq, Eq)]
 pub enum AckRefusal {
     Down,
     Halted { first: Digest, second: Digest },

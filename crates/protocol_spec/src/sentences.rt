@@ -52,6 +52,10 @@ fn say_fork<W: fmt::Write>(
     )
 }
 
+fn say_decided<W: fmt::Write>(f: &mut fmt::Formatter<W>, refusal: DecideRefusal) -> fmt::Result {
+    fmt::Display::fmt(&refusal, f)
+}
+
 impl fmt::Display for StartRefusal {
     fn fmt<W: fmt::Write>(&self, f: &mut fmt::Formatter<W>) -> fmt::Result {
         match *self {
@@ -61,7 +65,7 @@ impl fmt::Display for StartRefusal {
             StartRefusal::BadRecord { place, .. } => {
                 write!(f, "no call would have kept record {place} of the journal")
             }
-            StartRefusal::OutOfMemory => write!(f, "{OutOfMemory}"),
+            StartRefusal::OutOfMemory => fmt::Display::fmt(&OutOfMemory, f),
         }
     }
 }
@@ -72,7 +76,7 @@ impl fmt::Display for VoteRefusal {
             VoteRefusal::Down => say_down(f),
             VoteRefusal::Halted { first, second } => say_halted(f, first, second),
             VoteRefusal::Full => say_full(f),
-            VoteRefusal::Malformed(fault) => write!(f, "{fault}"),
+            VoteRefusal::Malformed(fault) => fmt::Display::fmt(&fault, f),
             VoteRefusal::WrongEpoch { had, want } => say_epoch(f, had, want),
             VoteRefusal::Closed => say_closed(f),
             VoteRefusal::Invalid(fault) => {
@@ -81,21 +85,19 @@ impl fmt::Display for VoteRefusal {
             VoteRefusal::Unsealed => {
                 f.write_str("the seal of the transaction's sender is not accepted")
             }
-            VoteRefusal::Absent(key) => write!(f, "{}", DecideRefusal::Absent(key)),
+            VoteRefusal::Absent(key) => say_decided(f, DecideRefusal::Absent(key)),
             VoteRefusal::Consumed { key, by } => {
-                write!(f, "{}", DecideRefusal::Consumed { key, by })
+                say_decided(f, DecideRefusal::Consumed { key, by })
             }
-            VoteRefusal::WrongDigest(key) => write!(f, "{}", DecideRefusal::WrongDigest(key)),
-            VoteRefusal::WrongOwner(key) => write!(f, "{}", DecideRefusal::WrongOwner(key)),
-            VoteRefusal::WrongKind(key) => write!(f, "{}", DecideRefusal::WrongKind(key)),
+            VoteRefusal::WrongDigest(key) => say_decided(f, DecideRefusal::WrongDigest(key)),
+            VoteRefusal::WrongOwner(key) => say_decided(f, DecideRefusal::WrongOwner(key)),
+            VoteRefusal::WrongKind(key) => say_decided(f, DecideRefusal::WrongKind(key)),
             VoteRefusal::PoorGas { had, want } => {
-                write!(f, "{}", DecideRefusal::PoorGas { had, want })
+                say_decided(f, DecideRefusal::PoorGas { had, want })
             }
-            VoteRefusal::Locked { key, by } => {
-                write!(f, "{}", DecideRefusal::Locked { key, by })
-            }
+            VoteRefusal::Locked { key, by } => say_decided(f, DecideRefusal::Locked { key, by }),
             VoteRefusal::KeepFault => say_unkept(f),
-            VoteRefusal::OutOfMemory => write!(f, "{OutOfMemory}"),
+            VoteRefusal::OutOfMemory => fmt::Display::fmt(&OutOfMemory, f),
         }
     }
 }
@@ -106,13 +108,13 @@ impl fmt::Display for HoldRefusal {
             HoldRefusal::Down => say_down(f),
             HoldRefusal::Halted { first, second } => say_halted(f, first, second),
             HoldRefusal::Full => say_full(f),
-            HoldRefusal::Malformed(fault) => write!(f, "{fault}"),
+            HoldRefusal::Malformed(fault) => fmt::Display::fmt(&fault, f),
             HoldRefusal::WrongEpoch { had, want } => say_epoch(f, had, want),
             HoldRefusal::Closed => say_closed(f),
-            HoldRefusal::Cert(refusal) => write!(f, "{refusal}"),
+            HoldRefusal::Cert(refusal) => fmt::Display::fmt(&refusal, f),
             HoldRefusal::KeepFault => say_unkept(f),
             HoldRefusal::Fork { key, first, second } => say_fork(f, key, first, second),
-            HoldRefusal::OutOfMemory => write!(f, "{OutOfMemory}"),
+            HoldRefusal::OutOfMemory => fmt::Display::fmt(&OutOfMemory, f),
         }
     }
 }
@@ -129,7 +131,7 @@ impl fmt::Display for SeeRefusal {
             }
             SeeRefusal::KeepFault => say_unkept(f),
             SeeRefusal::Fork { key, first, second } => say_fork(f, key, first, second),
-            SeeRefusal::OutOfMemory => write!(f, "{OutOfMemory}"),
+            SeeRefusal::OutOfMemory => fmt::Display::fmt(&OutOfMemory, f),
         }
     }
 }
@@ -141,7 +143,7 @@ impl fmt::Display for RunRefusal {
             RunRefusal::Halted { first, second } => say_halted(f, first, second),
             RunRefusal::Full => say_full(f),
             RunRefusal::KeepFault => say_unkept(f),
-            RunRefusal::OutOfMemory => write!(f, "{OutOfMemory}"),
+            RunRefusal::OutOfMemory => fmt::Display::fmt(&OutOfMemory, f),
         }
     }
 }
@@ -153,7 +155,7 @@ impl fmt::Display for CloseRefusal {
             CloseRefusal::Halted { first, second } => say_halted(f, first, second),
             CloseRefusal::Full => say_full(f),
             CloseRefusal::KeepFault => say_unkept(f),
-            CloseRefusal::OutOfMemory => write!(f, "{OutOfMemory}"),
+            CloseRefusal::OutOfMemory => fmt::Display::fmt(&OutOfMemory, f),
         }
     }
 }
@@ -167,7 +169,7 @@ impl fmt::Display for EndRefusal {
             EndRefusal::Waits { tx } => {
                 write!(f, "transaction {tx} is held, and not in the sequence seen")
             }
-            EndRefusal::OutOfMemory => write!(f, "{OutOfMemory}"),
+            EndRefusal::OutOfMemory => fmt::Display::fmt(&OutOfMemory, f),
         }
     }
 }
@@ -183,7 +185,7 @@ impl fmt::Display for TurnRefusal {
                 write!(f, "transaction {tx} is admitted, and not executed yet")
             }
             TurnRefusal::KeepFault => say_unkept(f),
-            TurnRefusal::OutOfMemory => write!(f, "{OutOfMemory}"),
+            TurnRefusal::OutOfMemory => fmt::Display::fmt(&OutOfMemory, f),
         }
     }
 }
@@ -196,8 +198,62 @@ impl fmt::Display for AckRefusal {
             AckRefusal::NotExecuted => {
                 f.write_str("the member has not executed the transaction in its epoch")
             }
-            AckRefusal::OutOfMemory => write!(f, "{OutOfMemory}"),
+            AckRefusal::OutOfMemory => fmt::Display::fmt(&OutOfMemory, f),
         }
+    }
+}
+
+impl fmt::Debug for StartRefusal {
+    fn fmt<W: fmt::Write>(&self, f: &mut fmt::Formatter<W>) -> fmt::Result {
+        fmt::Display::fmt(self, f)
+    }
+}
+
+impl fmt::Debug for VoteRefusal {
+    fn fmt<W: fmt::Write>(&self, f: &mut fmt::Formatter<W>) -> fmt::Result {
+        fmt::Display::fmt(self, f)
+    }
+}
+
+impl fmt::Debug for HoldRefusal {
+    fn fmt<W: fmt::Write>(&self, f: &mut fmt::Formatter<W>) -> fmt::Result {
+        fmt::Display::fmt(self, f)
+    }
+}
+
+impl fmt::Debug for SeeRefusal {
+    fn fmt<W: fmt::Write>(&self, f: &mut fmt::Formatter<W>) -> fmt::Result {
+        fmt::Display::fmt(self, f)
+    }
+}
+
+impl fmt::Debug for RunRefusal {
+    fn fmt<W: fmt::Write>(&self, f: &mut fmt::Formatter<W>) -> fmt::Result {
+        fmt::Display::fmt(self, f)
+    }
+}
+
+impl fmt::Debug for CloseRefusal {
+    fn fmt<W: fmt::Write>(&self, f: &mut fmt::Formatter<W>) -> fmt::Result {
+        fmt::Display::fmt(self, f)
+    }
+}
+
+impl fmt::Debug for EndRefusal {
+    fn fmt<W: fmt::Write>(&self, f: &mut fmt::Formatter<W>) -> fmt::Result {
+        fmt::Display::fmt(self, f)
+    }
+}
+
+impl fmt::Debug for TurnRefusal {
+    fn fmt<W: fmt::Write>(&self, f: &mut fmt::Formatter<W>) -> fmt::Result {
+        fmt::Display::fmt(self, f)
+    }
+}
+
+impl fmt::Debug for AckRefusal {
+    fn fmt<W: fmt::Write>(&self, f: &mut fmt::Formatter<W>) -> fmt::Result {
+        fmt::Display::fmt(self, f)
     }
 }
 

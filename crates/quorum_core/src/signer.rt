@@ -4,7 +4,7 @@ ghost use Rattle.quorum_core.specs.Signers as codecs;
 
 use digest_core::Digest;
 use std::alloc::Global;
-use wire_bcs::{OutOfMemory, Reader, Unread, Wire, Writer};
+use wire_bcs::{OutOfMemory, Reader, Unread, Wire, Writer, put_variant};
 
 /// Who makes a seal.
 #[derive(Clone, Copy, Debug, PartialEq, Eq)]
@@ -21,16 +21,8 @@ impl Wire for Signer {
 
     fn write_into(&self, writer: &mut Writer) -> Result<(), OutOfMemory> {
         match self {
-            Signer::Member(member) => {
-                writer.put_tag(0)?;
-                writer.put_u32(*member)?;
-                Ok(())
-            }
-            Signer::User(address) => {
-                writer.put_tag(1)?;
-                address.write_into(writer)?;
-                Ok(())
-            }
+            Signer::Member(member) => put_variant(writer, 0, member),
+            Signer::User(address) => put_variant(writer, 1, address),
         }
     }
 

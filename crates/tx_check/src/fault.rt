@@ -1,7 +1,7 @@
 //! What can be wrong with the shape of a transaction.
 
 /// The faults that [`crate::ShapeRefusal::Invalid`] lists, in the order in which they are tried.
-#[derive(Clone, Copy, Debug)]
+#[derive(Clone, Copy)]
 pub(crate) enum ShapeFault {
     TooLong,
     NoCommands,

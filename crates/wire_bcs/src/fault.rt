@@ -7,7 +7,7 @@ use crate::seq::OutOfMemory;
 use std::{error, fmt};
 
 /// What is wrong with an item. The definitions name the kinds by their numbers.
-#[derive(Clone, Copy, Debug)]
+#[derive(Clone, Copy)]
 pub enum FaultKind {
     /// 1: the input ends inside the item.
     Short,
