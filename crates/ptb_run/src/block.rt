@@ -24,7 +24,7 @@ use wire_bcs::{OutOfMemory, Seq};
 
 /// A block between two commands: its places, the objects that left it to an owner, the next creation number, and the
 /// ids that it drew so far.
-#[derive(Debug, Drop)]
+#[derive(Drop)]
 pub(crate) struct Block {
     pub(crate) slots: Slots,
     pub(crate) placed: Seq<Placed>,

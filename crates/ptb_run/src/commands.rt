@@ -98,7 +98,7 @@ fn new_coins(
 }
 
 /// What new objects of a block are made with: the transaction's digest, and the version at which it writes.
-#[derive(Clone, Copy, Debug)]
+#[derive(Clone, Copy)]
 pub(crate) struct Site {
     pub(crate) tx: Digest,
     pub(crate) version: u64,

@@ -11,7 +11,7 @@ use std::marker::Model;
 use wire_bcs::{OutOfMemory, Seq};
 
 /// The ids that a transaction drew, in the order of their numbers. Contracts see the transaction.
-#[derive(Debug, Drop)]
+#[derive(Drop)]
 pub(crate) struct DrawnIds {
     tx: Digest,
     ids: Seq<ObjectId>,

@@ -7,7 +7,7 @@ ghost use Rattle.ptb_run.specs.declared.halt.Halt.TheVariants as halt;
 use wire_bcs::OutOfMemory;
 
 /// Why a command fails, if no native aborts it.
-#[derive(Clone, Copy, Debug, PartialEq, Eq)]
+#[derive(Clone, Copy)]
 pub(crate) enum Cause {
     /// 1: an earlier command used the value up.
     Spent,
@@ -60,7 +60,7 @@ impl Cause {
 }
 
 /// Why a command fails.
-#[derive(Clone, Copy, Debug, PartialEq, Eq)]
+#[derive(Clone, Copy)]
 pub(crate) enum Fault {
     Cause(Cause),
     /// The code with which a native aborts.
@@ -68,7 +68,7 @@ pub(crate) enum Fault {
 }
 
 /// Why a command does not go on.
-#[derive(Clone, Copy, Debug, PartialEq, Eq)]
+#[derive(Clone, Copy)]
 pub(crate) enum Halt {
     Fault(Fault),
     OutOfMemory,
@@ -83,7 +83,7 @@ impl From<OutOfMemory> for Halt {
 }
 
 /// Why a block does not end well.
-#[derive(Clone, Copy, Debug, PartialEq, Eq)]
+#[derive(Clone, Copy)]
 pub(crate) enum Failed {
     /// The command of this number fails; at the end of the block the number is how many commands there are.
     At { command: u16, fault: Fault },

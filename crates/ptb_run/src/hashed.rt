@@ -17,7 +17,7 @@ use wire_bcs::{OutOfMemory, Seq};
 
 /// What the execution of a transaction leaves: its effects and the objects that they list, each with its digest.
 /// Contracts see an [`Executed`].
-#[derive(Debug, Drop)]
+#[derive(Drop)]
 pub struct HashedExecuted {
     effects: HashedEffects,
     objects: Seq<HashedObject>,

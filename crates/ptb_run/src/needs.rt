@@ -17,7 +17,7 @@ use std::alloc::Global;
 use wire_bcs::{OutOfMemory, Seq};
 
 /// How a command takes an argument.
-#[derive(Clone, Copy, Debug)]
+#[derive(Clone, Copy)]
 pub(crate) enum Need {
     Number,
     Address,
@@ -28,7 +28,7 @@ pub(crate) enum Need {
 }
 
 /// An argument, with how the command takes it.
-#[derive(Clone, Copy, Debug)]
+#[derive(Clone, Copy)]
 pub(crate) struct Wanted {
     pub(crate) argument: Argument,
     pub(crate) need: Need,
@@ -122,7 +122,7 @@ pub(crate) fn changes_value(need: Need) -> bool
 }
 
 /// The arguments of a command, each with how it is taken. Up to three take no memory.
-#[derive(Debug, Drop)]
+#[derive(Drop)]
 pub(crate) enum Arguments {
     One([Wanted; 1]),
     Two([Wanted; 2]),

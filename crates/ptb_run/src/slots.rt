@@ -12,7 +12,7 @@ use std::alloc::Global;
 use wire_bcs::{OutOfMemory, Seq};
 
 /// What the places of a block hold; none if the value is spent.
-#[derive(Debug, Drop)]
+#[derive(Drop)]
 pub(crate) struct Slots {
     pub(crate) gas: Option<Value>,
     pub(crate) inputs: Seq<Option<Value>>,

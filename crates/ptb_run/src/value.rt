@@ -9,7 +9,7 @@ use protocol_spec::Item;
 use wire_bcs::Seq;
 
 /// A value of a block.
-#[derive(Debug, Drop)]
+#[derive(Drop)]
 pub(crate) enum Value {
     Pure(Seq<u8>),
     Object(Item),
@@ -17,7 +17,7 @@ pub(crate) enum Value {
 }
 
 /// Where a value of a block lies.
-#[derive(Clone, Copy, Debug, PartialEq, Eq, Hash)]
+#[derive(Clone, Copy, PartialEq, Eq, Hash)]
 pub(crate) enum Spot {
     Gas,
     Input(u16),

@@ -10,7 +10,7 @@ use std::alloc::Global;
 use wire_bcs::{OutOfMemory, Seq};
 
 /// An object that is written, with the place in which the block has it.
-#[derive(Clone, Copy, Debug)]
+#[derive(Clone, Copy)]
 pub(crate) struct Moved {
     pub(crate) spot: Spot,
     pub(crate) object: Object,

@@ -73,6 +73,7 @@ impl Admission {
         ensures { IfOk result (λ a. a ≡ opened opening.now writers) }
     {
         bound_of(writers);
+        let opening = shared_objects(alloc, opening)?;
         let book = AdmissionTables {
             rows: Vec::new(alloc),
             known: IndexSet::new(alloc),
@@ -82,7 +83,7 @@ impl Admission {
             waiting: 0,
             low: 0,
             lines: IndexMap::new(alloc),
-            opening: shared_objects(alloc, opening)?,
+            opening,
             writers,
         };
         let register = IndexedAdmission {

@@ -11,7 +11,7 @@ use indexmap::IndexMap;
 use wire_bcs::OutOfMemory;
 
 /// An object that an epoch changed, as it lives at its end; none if it no longer lives.
-#[derive(Clone, Copy, Debug, PartialEq, Eq)]
+#[derive(Clone, Copy)]
 pub struct Change {
     pub id: ObjectId,
     pub lives: Option<Object>,

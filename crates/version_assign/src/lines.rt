@@ -15,7 +15,7 @@ use wire_bcs::OutOfMemory;
 
 /// The current version of a shared object and who wrote it, once an admitted transaction named the object; and how
 /// many wrote it since the last mark.
-#[derive(Clone, Copy, Debug)]
+#[derive(Clone, Copy)]
 pub(crate) struct Line {
     pub(crate) standing: Option<(u64, Producer)>,
     pub(crate) writers: u32,

@@ -15,7 +15,7 @@ use Rattle.version_store.specs.declared.maps.Maps.{Maps}
 use Rattle.version_store.specs.declared.maps.Ran.{Ran}
 use Rattle.version_store.specs.Stores.{Stored, are_new, executed_as, held_in, with_execution}
 use Rattle.version_store.specs.Kept.{IsKept, kept_as, kept_object, stored, stored_as, written_in}
-use Rattle.version_store.specs.Changes.{Adds, Holds, IsEmpty, SameEntries}
+use Rattle.version_store.specs.Changes.{Adds, Holds, IsEmpty, Opens, SameEntries}
 use Rattle.version_store.specs.Steps.{with_versions, with_all_newer}
 use Rattle.version_store.proofs.Held.{made, new_go_last, objects_kept, objects_made, versions_more, versions_opened}
 use Rattle.version_store.proofs.Newest.{newest_more, deleted_more, consumed_more}
@@ -174,18 +174,21 @@ module _ (maps : Maps) (objects : List Object) (versions_are : maps.versions.ent
           ap length entries_opened ∙ length-map (map (made producers.Opening) objects) kept_as ∙ length-map objects (made producers.Opening) in
           grind arith
 
-pub opens : {n : ℕ} {none mid new : Maps} {objects slice : List Object} → IsEmpty none → SameEntries none mid → Holds mid new producers.Opening slice → slice ≡ objects → n ≡ length objects → are_new [] objects ≡ true
-    → IsKept n new × (stored n new ≡ opening_of objects)
-opens {n} {none} {mid} {new} {objects} {slice} empty same holds os count fresh =
-    let vs : new.versions.entries ≡ with_versions producers.Opening [] objects =
-    holds.versions ∙ ap (λ es. with_versions producers.Opening es slice) (same.versions ∙ empty.versions) ∙ ap (with_versions producers.Opening []) os in
-    let ns : new.newest.entries ≡ with_all_newer [] objects = holds.newest ∙ ap (λ es. with_all_newer es slice) (same.newest ∙ empty.newest) ∙ ap (with_all_newer []) os in
-    let es : new.executed.entries ≡ [] = ap (λ m. m.entries) holds.executed ∙ same.executed ∙ empty.executed in
-    let cs : new.consumers.entries ≡ [] = ap (λ m. m.entries) holds.consumers ∙ same.consumers ∙ empty.consumers in
-    let ds : new.deleted.keys ≡ [] = ap (λ m. m.keys) holds.deleted ∙ same.deleted ∙ empty.deleted in (
-      subst (λ k. IsKept k new) (sym count) (keeps_opened new objects vs ns es cs ds fresh),
-      ap (λ k. stored k new) count ∙ stands_opened new objects vs ns es cs ds fresh,
-    )
+-- empty maps, with room, that these objects were added to
+pub holds_opening : {none mid new : Maps} {objects slice : List Object} → IsEmpty none → SameEntries none mid → Holds mid new producers.Opening slice → slice ≡ objects → Opens new objects
+holds_opening {none} {mid} {new} {objects} {slice} empty same holds os = record {
+  versions = holds.versions ∙ ap (λ es. with_versions producers.Opening es slice) (same.versions ∙ empty.versions) ∙ ap (with_versions producers.Opening []) os;
+  newest = holds.newest ∙ ap (λ es. with_all_newer es slice) (same.newest ∙ empty.newest) ∙ ap (with_all_newer []) os;
+  executed = ap (λ m. m.entries) holds.executed ∙ same.executed ∙ empty.executed;
+  consumers = ap (λ m. m.entries) holds.consumers ∙ same.consumers ∙ empty.consumers;
+  deleted = ap (λ m. m.keys) holds.deleted ∙ same.deleted ∙ empty.deleted;
+}
+
+pub opens : {n : ℕ} {maps : Maps} {objects : List Object} → Opens maps objects → n ≡ length objects → are_new [] objects ≡ true → IsKept n maps × (stored n maps ≡ opening_of objects)
+opens {n} {maps} {objects} o count fresh = (
+  subst (λ k. IsKept k maps) (sym count) (keeps_opened maps objects o.versions o.newest o.executed o.consumers o.deleted fresh),
+  ap (λ k. stored k maps) count ∙ stands_opened maps objects o.versions o.newest o.executed o.consumers o.deleted fresh,
+)
 
 -- maps that hold nothing
 pub kept_empty : (maps : Maps) → IsEmpty maps → IsKept 0 maps

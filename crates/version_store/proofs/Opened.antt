@@ -22,7 +22,7 @@ use Rattle.version_store.specs.declared.maps.Maps.{Maps}
 use Rattle.version_store.specs.Stores.{Stored, are_new, executed_as, held_in, with_execution}
 use Rattle.version_store.specs.Kept.{IsKept, stored}
 use Rattle.version_store.specs.Bases.{IsHeld, based, front_entries, object_under, over, stored_over}
-use Rattle.version_store.specs.Changes.{Adds, Holds, IsEmpty, Keeps, SameEntries}
+use Rattle.version_store.specs.Changes.{Adds, Keeps, Opens, SameEntries}
 use Rattle.version_store.specs.Reverts.{reverted_to}
 use Rattle.version_store.proofs.Based.{held_is, new_behind}
 use Rattle.version_store.proofs.Kept.{opening_of, opens, written as written_in}
@@ -107,14 +107,14 @@ new_part xs ys h =
     ∙ ap not (no_repeat_behind xs ys (not_true (repeats key_eq keys) p.1))
 
 -- a store that opens
-pub opens_over : (objects : List Object) {n : ℕ} {entries : List (ObjectId × Object)} {none mid new : Maps} {slice : List Object} → entries ≡ front_entries [] objects → AreApart entries → IsEmpty none → SameEntries none mid
-    → Holds mid new producers.Opening slice → slice ≡ drop (length entries) objects → n ≡ length slice → are_new [] objects ≡ true
-    → IsHeld false entries n new × (stored_over false entries n new ≡ opening_of objects)
-opens_over objects {n} {entries} {none} {mid} {new} {slice} is apart empty same holds rest count fresh =
+pub opens_over : (objects : List Object) {n : ℕ} {entries : List (ObjectId × Object)} {maps : Maps} {slice : List Object} → entries ≡ front_entries [] objects → AreApart entries → Opens maps slice → slice ≡ drop (length entries) objects
+    → n ≡ length slice → are_new [] objects ≡ true
+    → IsHeld false entries n maps × (stored_over false entries n maps ≡ opening_of objects)
+opens_over objects {n} {entries} {maps} {slice} is apart opening rest count fresh =
     let own : Each IsOwn entries = subst (Each IsOwn) (sym is) (front_own objects) in
     let whole : map object_under entries ++ drop (length entries) objects ≡ objects = subst (λ (es : List (ObjectId × Object)). map object_under es ++ drop (length es) objects ≡ objects) (sym is) (front_rest objects) in
     let new_rest : are_new [] (drop (length entries) objects) ≡ true = new_part (map object_under entries) (drop (length entries) objects) (ap (are_new []) whole ∙ fresh) in
-    let p : IsKept n new × (stored n new ≡ opening_of (drop (length entries) objects)) = opens empty same holds rest (count ∙ ap length rest) new_rest in (
+    let p : IsKept n maps × (stored n maps ≡ opening_of (drop (length entries) objects)) = opens (subst (Opens maps) rest opening) (count ∙ ap length rest) new_rest in (
       record { kept = p.0; newest = λ id. newest_under id entries own apart; at = λ key. version_under key entries own apart },
       ap (over (map object_under entries)) p.1 ∙ ap opening_of whole,
     )

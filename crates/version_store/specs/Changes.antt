@@ -37,6 +37,14 @@ pub record HasRoom (maps : Maps) (written consumed deleted : ℕ) : Type 0 where
   pub for_deleted : deleted ≤ set_spare maps.deleted
   pub for_execution : 1 ≤ spare maps.executed
 
+-- the epoch opens with these objects, and did nothing yet
+pub record Opens (maps : Maps) (objects : List Object) : Type 0 where
+  pub versions : maps.versions.entries ≡ with_versions producers.Opening [] objects
+  pub newest : maps.newest.entries ≡ with_all_newer [] objects
+  pub executed : maps.executed.entries ≡ []
+  pub consumers : maps.consumers.entries ≡ []
+  pub deleted : maps.deleted.keys ≡ []
+
 -- these objects, which this producer made, were added to the versions and to the newest of their ids
 pub record Holds (old new : Maps) (producer : Producer) (objects : List Object) : Type 0 where
   pub versions : new.versions.entries ≡ with_versions producer old.versions.entries objects

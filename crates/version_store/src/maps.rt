@@ -1,15 +1,15 @@
 //! The maps of a store, and one step of each.
 
-ghost use Rattle.std.specs.Prelude.{◌≡◌, ◌+◌, ◌<◌, ◌≤◌, OnOk, Some, is_some, length, true};
+ghost use Rattle.std.specs.Prelude.{◌≡◌, ◌+◌, ◌<◌, ◌≤◌, IfOk, OnOk, Some, is_some, length, true};
 ghost use Rattle.std.specs.Map.{lookup, set_value};
 ghost use Rattle.indexmap.specs.IndexMap.{insert_entry, spare};
 ghost use Rattle.indexmap.specs.IndexSet.{insert_all, insert_key, spare as set_spare};
 ghost use Rattle.chain_types.specs.Equal.{id_eq};
 ghost use Rattle.version_store.specs.Steps.{newer_of, with_all_newer, with_consumer, with_consumers, with_newer, with_versions};
-ghost use Rattle.version_store.specs.Changes.{Adds, HasRoom, Holds, IsEmpty, SameEntries};
+ghost use Rattle.version_store.specs.Changes.{Adds, HasRoom, Holds, IsEmpty, Opens, SameEntries};
 
 use crate::fresh::key_of;
-use chain_types::{HashedObject, ObjectId, ObjectKey, Producer};
+use chain_types::{HashedObject, Object, ObjectId, ObjectKey, Producer};
 use digest_core::Digest;
 use effects_core::HashedEffects;
 use indexmap::{IndexMap, IndexSet};
@@ -19,7 +19,7 @@ use tables::insert_in_room;
 use wire_bcs::{OutOfMemory, Seq};
 
 /// A held version, and who made it.
-#[derive(Clone, Copy, Debug)]
+#[derive(Clone, Copy)]
 pub(crate) struct Kept {
     pub(crate) object: HashedObject,
     pub(crate) producer: Producer,
@@ -27,7 +27,7 @@ pub(crate) struct Kept {
 
 /// An executed transaction: the versions that it consumed, its effects, and how many objects it wrote. The objects are
 /// in `Maps::versions`, in the order of execution.
-#[derive(Debug, Drop)]
+#[derive(Drop)]
 pub(crate) struct Ran {
     pub(crate) consumed: Seq<ObjectKey>,
     pub(crate) effects: HashedEffects,
@@ -189,6 +189,21 @@ impl Maps {
             newest: IndexMap::new(alloc),
             deleted: IndexSet::new(alloc),
         }
+    }
+
+    /// The maps of an epoch that opens with these objects.
+    pub(crate) fn opening(alloc: Global, objects: &[Object]) -> Result<Maps, OutOfMemory>
+        ensures { IfOk result (λ maps. Opens maps objects.now) }
+    {
+        let hashed = HashedObject::all(alloc, objects)?;
+        let held = hashed.as_slice();
+        let mut maps = Maps::new(alloc);
+        let Ok(()) = maps.make_room(held.len(), 0, 0) else {
+            drop(maps);
+            return Err(OutOfMemory);
+        };
+        maps.hold(held, Producer::Opening);
+        Ok(maps)
     }
 
     /// Makes room for one execution that writes, consumes and deletes this many.

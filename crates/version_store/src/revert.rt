@@ -13,6 +13,7 @@ use chain_types::{HashedObject, ObjectId, ObjectKey, Producer};
 use digest_core::Digest;
 use indexmap::{IndexMap, IndexSet};
 use std::alloc::Global;
+use std::mem::replace;
 use wire_bcs::{OutOfMemory, Seq};
 
 /// Digests, each once.
@@ -142,9 +143,9 @@ impl Maps {
         let deleted = deleted_staying(alloc, &self.executed, kept)?;
         keep_versions(&mut self.versions, kept);
         keep_executed(&mut self.executed, kept);
-        self.newest = newest;
-        self.consumers = consumers;
-        self.deleted = deleted;
+        drop(replace(&mut self.newest, newest));
+        drop(replace(&mut self.consumers, consumers));
+        drop(replace(&mut self.deleted, deleted));
         Ok(())
     }
 }
@@ -161,7 +162,7 @@ impl Store {
         let kept = set_of(self.alloc, kept)?;
         let undone = not_kept(self.alloc, &self.maps.executed, &kept)?;
         if undone.is_empty() {
-            return Ok(Seq::new(self.alloc));
+            return Ok(Seq::from_vec(undone));
         }
         self.maps.keep(self.alloc, &kept)?;
         Ok(Seq::from_vec(undone))

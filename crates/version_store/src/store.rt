@@ -50,16 +50,15 @@ impl Store {
     {
         let base = front_of(alloc, objects.as_slice())?;
         let rest = behind(objects.as_slice(), base.len());
-        let hashed = HashedObject::all(alloc, rest)?;
-        let held = hashed.as_slice();
-        let mut maps = Maps::new(alloc);
-        maps.make_room(held.len(), 0, 0)?;
-        maps.hold(held, Producer::Opening);
+        let Ok(maps) = Maps::opening(alloc, rest) else {
+            drop(base);
+            return Err(OutOfMemory);
+        };
         Ok(Store {
             base,
             turned: false,
             maps,
-            opened: held.len(),
+            opened: rest.len(),
             alloc,
         })
     }

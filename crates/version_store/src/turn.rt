@@ -6,6 +6,7 @@ ghost use Rattle.version_store.specs.Stores.{next_epoch};
 use crate::base::{add_newest, take_out};
 use crate::maps::Maps;
 use crate::store::Store;
+use std::mem::replace;
 use wire_bcs::OutOfMemory;
 
 impl Store {
@@ -20,7 +21,7 @@ impl Store {
         take_out(&mut self.base, &self.maps.deleted);
         // A map's count says that no id comes twice.
         let _held = self.base.len();
-        self.maps = Maps::new(self.alloc);
+        drop(replace(&mut self.maps, Maps::new(self.alloc)));
         self.opened = 0;
         self.turned = true;
         Ok(())

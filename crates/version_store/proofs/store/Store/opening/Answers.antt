@@ -8,10 +8,10 @@ behind-rest-requires c = fits c.args.objects.now c.in_ok-base.ensures c.as_slice
 
 pub invariant_of-result : goal.invariant_of-result
 invariant_of-result c =
-    (opens_over c.args.objects.now (c.in_ok-base.ensures ∙ ap (front_entries []) c.as_slice.ensures.value) c.len.ensures.unique c.new-maps.ensures c.in_ok-make_room.ensures.same c.hold.ensures
-    (c.as_slice-held.ensures.value ∙ c.in_ok-hashed.ensures ∙ c.behind-rest.ensures ∙ ap (λ n. drop n c.as_slice-2.result.now) c.len.ensures.len ∙ ap (drop (length c.in_ok-base.base.entries)) c.as_slice-2.ensures.value) refl c.requires).0
+    (opens_over c.args.objects.now (c.in_ok-base.ensures ∙ ap (front_entries []) c.as_slice.ensures.value) c.len.ensures.unique c.in-Ok.ensures
+    (c.behind-rest.ensures ∙ ap (λ n. drop n c.as_slice-2.result.now) c.len.ensures.len ∙ ap (drop (length c.in_ok-base.base.entries)) c.as_slice-2.ensures.value) refl c.requires).0
 
 pub returns : goal.returns
 returns c =
-    (opens_over c.args.objects.now (c.in_ok-base.ensures ∙ ap (front_entries []) c.as_slice.ensures.value) c.len.ensures.unique c.new-maps.ensures c.in_ok-make_room.ensures.same c.hold.ensures
-    (c.as_slice-held.ensures.value ∙ c.in_ok-hashed.ensures ∙ c.behind-rest.ensures ∙ ap (λ n. drop n c.as_slice-2.result.now) c.len.ensures.len ∙ ap (drop (length c.in_ok-base.base.entries)) c.as_slice-2.ensures.value) refl c.requires).1
+    (opens_over c.args.objects.now (c.in_ok-base.ensures ∙ ap (front_entries []) c.as_slice.ensures.value) c.len.ensures.unique c.in-Ok.ensures
+    (c.behind-rest.ensures ∙ ap (λ n. drop n c.as_slice-2.result.now) c.len.ensures.len ∙ ap (drop (length c.in_ok-base.base.entries)) c.as_slice-2.ensures.value) refl c.requires).1

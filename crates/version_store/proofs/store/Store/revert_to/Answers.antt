@@ -12,8 +12,9 @@ returns-then-is_empty-clause-ok c =
 
 pub returns-then-is_empty-clause-undone : goal.returns-then-is_empty-clause-undone
 returns-then-is_empty-clause-undone c =
-    c.new.ensures ∙ sym (no_items c.in_ok-undone.undone.len c.in_ok-undone.undone.items c.in_ok-undone.undone.ok.0 (sym c.is_empty.ensures ∙ c.if-is_empty.true))
-    ∙ c.in_ok-undone.ensures ∙ undone_are c.args.kept.now c.self.inside.opened c.self.inside.maps refl c.in_ok-kept.ensures ∙ ap (undone c.args.kept.now) c.self.view_is
+    c.from_vec.ensures ∙ c.in_ok-undone.ensures
+    ∙ undone_are c.args.kept.now c.self.inside.opened c.self.inside.maps refl c.in_ok-kept.ensures
+    ∙ ap (undone c.args.kept.now) c.self.view_is
 
 pub invariant_of-self-2 : goal.invariant_of-self-2
 invariant_of-self-2 c = (reverted_over c.self.invariant c.self.view_is c.args.kept.now c.in_ok-keep.ensures.ok c.in_ok-kept.ensures).0
@@ -23,6 +24,6 @@ returns-clause-ok c = (reverted_over c.self.invariant c.self.view_is c.args.kept
 
 pub returns-clause-undone : goal.returns-clause-undone
 returns-clause-undone c =
-    c.from_vec.ensures ∙ c.in_ok-undone.ensures
+    c.from_vec-2.ensures ∙ c.in_ok-undone.ensures
     ∙ undone_are c.args.kept.now c.self.inside.opened c.self.inside.maps refl c.in_ok-kept.ensures
     ∙ ap (undone c.args.kept.now) c.self.view_is
