@@ -17,7 +17,7 @@ use wire_bcs::{Duplicate, OutOfMemory, Seq};
 
 /// Why a follower that takes checkpoints in order stops. Checkpoints go by their numbers; places are those of
 /// a checkpoint's transactions, counted from 0, and the first bad place is reported.
-#[derive(Clone, Copy, Debug, PartialEq, Eq)]
+#[derive(Clone, Copy)]
 pub enum CatchUpRefusal {
     /// The transaction is not known, or cannot be executed after those before it.
     Stuck { number: u64, place: u64 },
@@ -38,7 +38,7 @@ impl From<OutOfMemory> for CatchUpRefusal {
 }
 
 /// Why the transactions of a checkpoint were not collected: one is not known, or memory was refused.
-#[derive(Clone, Copy, Debug, PartialEq, Eq)]
+#[derive(Clone, Copy)]
 enum Unfound {
     Missing { place: u64 },
     OutOfMemory,
@@ -186,6 +186,7 @@ pub fn catch_up<A: Archive>(
     let mut follower = Follower::open(alloc, opening)?;
     for place in 0..archive.checkpoints() {
         if let Err(refusal) = take_at(alloc, archive, &mut follower, place, epoch) {
+            drop(follower);
             return Err(refusal);
         }
     }

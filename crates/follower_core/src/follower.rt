@@ -6,6 +6,7 @@ ghost use Rattle.chain_types.specs.Transactions.{transaction};
 ghost use Rattle.checkpoint_core.specs.Checkpoints.{checkpoint as codec};
 ghost use Rattle.protocol_spec.specs.Chain.Words.{Each};
 ghost use Rattle.follower_core.specs.Courses.{first_bad};
+ghost use Rattle.follower_core.specs.Steps.{with_objects};
 ghost use Rattle.follower_core.specs.Following.{Answers, applied_in as count_in, course_behind, is_memory, opened, state_behind, tip_behind, turned};
 
 use crate::ledger::Ledger;
@@ -72,6 +73,15 @@ fn settle(ledger: &mut Ledger, last: bool) -> Result<(), OutOfMemory>
     Ok(())
 }
 
+/// Puts the objects under their ids, and settles that.
+fn fill(ledger: &mut Ledger, objects: &[Object]) -> Result<(), OutOfMemory>
+    ensures kept { OnOk result (ledger.new.kept ≡ with_objects ledger.old.present objects.now) }
+    ensures present { OnOk result (ledger.new.present ≡ with_objects ledger.old.present objects.now) }
+{
+    put_all(ledger, objects)?;
+    ledger.settle()
+}
+
 /// Executes the transactions of a checkpoint that goes on from the tip, and settles what they did; answers the next tip.
 fn follow(
     alloc: Global,
@@ -104,17 +114,21 @@ impl Follower {
         ensures { IfOk result (λ follower. follower ≡ opened opening.now) }
     {
         let mut ledger = Ledger::new(alloc);
-        put_all(&mut ledger, opening.as_slice())?;
-        ledger.settle()?;
-        Ok(Follower {
-            ledger,
-            tip: Tip {
-                before: None,
-                epoch: 0,
-                up: true,
-            },
-            alloc,
-        })
+        match fill(&mut ledger, opening.as_slice()) {
+            Ok(()) => Ok(Follower {
+                ledger,
+                tip: Tip {
+                    before: None,
+                    epoch: 0,
+                    up: true,
+                },
+                alloc,
+            }),
+            Err(refused) => {
+                drop(ledger);
+                Err(refused)
+            }
+        }
     }
 
     /// Applies the next checkpoint with its transactions, and answers how many checkpoints were applied.

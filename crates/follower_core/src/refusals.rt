@@ -9,7 +9,7 @@ use wire_bcs::OutOfMemory;
 
 /// Why a checkpoint is not applied, in the order in which the cases are tried. Places are those of its transactions,
 /// counted from 0, and the first bad place is reported.
-#[derive(Clone, Copy, Debug, PartialEq, Eq)]
+#[derive(Clone, Copy)]
 pub enum FollowRefusal {
     /// Memory was refused at an earlier checkpoint.
     Down,

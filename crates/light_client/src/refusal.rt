@@ -7,7 +7,7 @@ use std::{error, fmt};
 use wire_bcs::OutOfMemory;
 
 /// Why a call has no other answer.
-#[derive(Clone, Copy, Debug, PartialEq, Eq)]
+#[derive(Clone, Copy, PartialEq, Eq)]
 pub enum Refusal {
     OutOfMemory,
     /// There are more than 16,777,216 bytes.
@@ -73,6 +73,12 @@ impl fmt::Display for Refusal {
                 "the certificates are not of two transactions of one epoch that consume one version",
             ),
         }
+    }
+}
+
+impl fmt::Debug for Refusal {
+    fn fmt<W: fmt::Write>(&self, f: &mut fmt::Formatter<W>) -> fmt::Result {
+        fmt::Display::fmt(self, f)
     }
 }
 
