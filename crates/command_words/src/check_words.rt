@@ -1,10 +1,8 @@
 //! The words of `check`: the stakes of a committee, and the digest of a transaction.
 
 ghost use Rattle.std.specs.Prelude.{◌≡◌, ◌∷◌, [], length, map, IfSome, bytes_eq, codes};
-ghost use Rattle.std.specs.List.{list_all};
 ghost use Rattle.std.specs.String.{string_bytes};
 ghost use Rattle.hex.specs.Hex.{decode_of};
-ghost use Rattle.schedule_text.specs.Inputs.{is_hex_byte};
 ghost use Rattle.command_words.specs.Words.{IsInRange};
 ghost use Rattle.command_words.specs.CheckWords.{check_in, check_words, digest_in, digest_of_bytes, stakes_in};
 
@@ -13,6 +11,7 @@ use crate::words::Command;
 use digest_core::Digest;
 use hex::decode_to_slice;
 use quorum_core::Committee;
+use schedule_text::are_hex_bytes;
 
 /// The highest stake.
 const MOST_STAKE: u64 = 4_294_967_295;
@@ -30,18 +29,6 @@ fn committee_in(word: &[u8]) -> Option<Committee>
         Ok(committee) => Some(committee),
         Err(_) => unreachable!(),
     }
-}
-
-fn is_hex_byte(byte: u8) -> bool
-    ensures { result ≡ is_hex_byte byte }
-{
-    matches!(byte, b'0'..=b'9' | b'a'..=b'f')
-}
-
-fn are_hex_bytes(word: &[u8]) -> bool
-    ensures { result ≡ list_all is_hex_byte word.now }
-{
-    word.iter().all(|byte| is_hex_byte(*byte))
 }
 
 /// The bytes of 64 hexadecimal digits.

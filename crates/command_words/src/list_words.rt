@@ -1,44 +1,13 @@
 //! Words that are numbers joined by commas.
 
-ghost use Rattle.std.specs.Prelude.{◌≡◌, ◌==◌, ◌≤◌, ◌<◌, ◌∷◌, take, length, position, option_map, IfSome};
-ghost use Rattle.std.specs.List.{slice_split};
-ghost use Rattle.schedule_text.specs.Bytes.{cut_at, number_in};
-ghost use Rattle.schedule_text.specs.Left.{parts_left, size_left};
+ghost use Rattle.std.specs.Prelude.{◌≡◌, ◌≤◌, take, length, option_map, IfSome};
+ghost use Rattle.schedule_text.specs.Bytes.{number_in};
 ghost use Rattle.command_words.specs.ListWords.{numbers_in};
 
-use schedule_text::number_in;
+use schedule_text::{cut_part, number_in};
 
 /// The most numbers of a word.
 const MOST_NUMBERS: usize = 64;
-
-/// The place of the first comma.
-fn comma_in(text: &[u8]) -> Option<usize>
-    ensures value { result ≡ position (λ b. b == 44) text.now }
-    ensures low { IfSome result (λ at. at < length text.now) }
-{
-    text.iter().position(|byte| *byte == b',')
-}
-
-/// What stands before the first comma, and what follows it.
-#[tactic(auto, unfolding(schedule_text::specs::Bytes::cut_at))]
-fn cut_comma(text: &[u8]) -> Option<(&[u8], &[u8])>
-    ensures value { option_map (λ p. (p.0.now, p.1.now)) result ≡ cut_at 44 text.now }
-    ensures shorter { IfSome result (λ p. length p.1.now < length text.now) }
-{
-    let at = comma_in(text)?;
-    Some((&text[..at], &text[at + 1..]))
-}
-
-/// The first part of the text between commas, and what follows it.
-fn first_part(text: &[u8]) -> (&[u8], Option<&[u8]>)
-    ensures parts { slice_split (λ b. b == 44) text.now ≡ result.0.now ∷ parts_left 44 result.1 }
-    ensures shorter { size_left result.1 ≤ length text.now }
-{
-    match cut_comma(text) {
-        Some((part, after)) => (part, Some(after)),
-        None => (text, None),
-    }
-}
 
 /// The number from `low` to `high` that the part denotes.
 fn number_of(low: u64, high: u64, part: &[u8]) -> Option<u32>
@@ -62,7 +31,7 @@ pub fn read_numbers(low: u64, high: u64, word: &[u8], row: &mut [u32]) -> Option
     let mut count = 0;
     let mut left = Some(word);
     while let Some(text) = left {
-        let (part, after) = first_part(text);
+        let (part, after) = cut_part(b',', text);
         let Some(number) = number_of(low, high, part) else {
             return None;
         };

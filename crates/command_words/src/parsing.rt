@@ -62,14 +62,26 @@ fn with_one<'a>(
 ) -> Result<Command<'a>, AllocError>
     ensures { IfOk result (λ c. app_of c ≡ with_subcommand (app_of program.entry) (of_one name.entry.now id.entry.now).top) }
 {
-    program.subcommand(of_one(alloc, name, id)?)
+    match of_one(alloc, name, id) {
+        Ok(command) => program.subcommand(command),
+        Err(error) => {
+            drop(program);
+            Err(error)
+        }
+    }
 }
 
 /// The program with `check`.
 fn with_check<'a>(alloc: Global, program: Command<'a>) -> Result<Command<'a>, AllocError>
     ensures { IfOk result (λ c. app_of c ≡ with_subcommand (app_of program.entry) of_check.top) }
 {
-    program.subcommand(of_check(alloc)?)
+    match of_check(alloc) {
+        Ok(command) => program.subcommand(command),
+        Err(error) => {
+            drop(program);
+            Err(error)
+        }
+    }
 }
 
 /// The program before it has commands.

@@ -25,12 +25,12 @@ pub fn evaluate_plain<J: Job>(alloc: Global, plan: &Plan<J>) -> Result<Seq<J::Ou
     Ok(outputs)
 }
 
-// A slot for each edge, empty.
-fn empty_slots<V: Drop>(alloc: Global, edges: usize) -> Result<Vec<Option<V>>, OutOfMemory>
-    ensures { IfOk result (λ slots. slots.items ≡ replicate edges None) }
+/// So many empty slots.
+pub fn empty_slots<V: Drop>(alloc: Global, count: usize) -> Result<Vec<Option<V>>, OutOfMemory>
+    ensures { IfOk result (λ slots. slots.items ≡ replicate count None) }
 {
-    let mut slots = Vec::with_capacity(alloc, edges)?;
-    for _ in 0..edges {
+    let mut slots = Vec::with_capacity(alloc, count)?;
+    for _ in 0..count {
         slots.push(None)?;
     }
     Ok(slots)

@@ -9,6 +9,6 @@ mod evaluate;
 mod job;
 mod plan;
 
-pub use evaluate::evaluate_plain;
+pub use evaluate::{empty_slots, evaluate_plain};
 pub use job::Job;
 pub use plan::{Edge, Plan, PlanRefusal};

@@ -1,8 +1,9 @@
 //! Outputs in the order of their tasks.
 
-ghost use Rattle.std.specs.Prelude.{◌≡◌, ℕ, ◌<◌, List, Some, None, length, All, IfOk, slice_get, replicate};
+ghost use Rattle.std.specs.Prelude.{◌≡◌, ℕ, ◌<◌, List, Some, None, length, All, IfOk, slice_get};
 ghost use Rattle.dag_pool.specs.Outputs.{AreOutputs, times_in};
 
+use dag_core::empty_slots;
 use std::alloc::Global;
 use wire_bcs::{OutOfMemory, Seq};
 
@@ -21,17 +22,6 @@ pub(crate) fn in_order<O: Drop>(
         slots[task as usize] = Some(output);
     }
     unwrapped(alloc, slots)
-}
-
-// So many empty slots.
-fn empty_slots<O: Drop>(alloc: Global, count: usize) -> Result<Vec<Option<O>>, OutOfMemory>
-    ensures { IfOk result (λ slots. slots.items ≡ replicate count None) }
-{
-    let mut slots = Vec::with_capacity(alloc, count)?;
-    for _ in 0..count {
-        slots.push(None)?;
-    }
-    Ok(slots)
 }
 
 // What stands in the slots, each of which is filled.

@@ -1,8 +1,8 @@
 //! Where records are kept.
 
-ghost use Rattle.std.specs.Prelude.{◌≡◌, ℕ, ◌<◌, ◌^◌, [], length, replicate, IfOk, OnErr, Option, Some, IsErrOf, true, false};
+ghost use Rattle.std.specs.Prelude.{◌≡◌, ℕ, ◌<◌, ◌^◌, [], length, replicate, IfOk, OnErr, OnOk, Option, Some, IsErrOf, true, false};
 ghost use Rattle.outside.specs.Causes.{KeepCause};
-ghost use Rattle.outside.specs.Lists.{Journals, Appended, KeepsJournals, IsRecordAt, IsCountOf, HasMembers, journal_of};
+ghost use Rattle.outside.specs.Lists.{Journals, Appended, KeepsJournals, IsRecordAt, IsCountOf, HasMembers, journal_of, with_record};
 ghost use Rattle.outside.specs.Turns.{after_call, fails_next, faults_after};
 ghost use Rattle.outside.specs.declared.faults.OutFault.TheVariants as fault;
 
@@ -109,6 +109,18 @@ impl MemKeeper {
     }
 }
 
+/// Adds the record at the end of the member's list.
+fn keep_record(lists: &mut Vec<Seq<Seq<u8>>>, member: u32, bytes: &[u8]) -> Result<(), OutOfMemory>
+    requires { member < length lists.old.items }
+    ensures kept { OnOk result (lists.new.items ≡ with_record lists.old.items member bytes.now) }
+    ensures refused { OnErr result (lists.new.items ≡ lists.old.items) }
+    ensures width { length lists.new.items ≡ length lists.old.items }
+{
+    let record = Seq::from_slice(*lists.allocator(), bytes)?;
+    let list = &mut lists[member as usize];
+    list.push(record)
+}
+
 impl MemKeeper {
     /// The allocator that the lists take their memory from.
     pub(crate) fn allocator(&self) -> Global {
@@ -141,10 +153,7 @@ impl Keeper for MemKeeper {
             self.faults = self.faults.saturating_add(1);
             return Err(OutFault::Failed);
         }
-        let record = Seq::from_slice(*self.lists.allocator(), bytes)?;
-        let list = &mut self.lists[member as usize];
-        list.push(record)?;
-        Ok(())
+        Ok(keep_record(&mut self.lists, member, bytes)?)
     }
 
     fn members(&self) -> u32 {

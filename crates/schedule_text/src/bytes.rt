@@ -3,11 +3,19 @@
 ghost use Rattle.std.specs.Prelude.{◌≡◌, ◌∷◌, ◌==◌, ◌*◌, ◌+◌, ◌-◌, ◌^◌, ◌<◌, ◌≤◌, option_map, IsTrue, IfOk, IfSome, map, position, length};
 ghost use Rattle.std.specs.Option.{SomeIff};
 ghost use Rattle.std.specs.List.{slice_split, list_all};
+ghost use Rattle.std.specs.Str.{bytes_eq};
 ghost use Rattle.schedule_text.specs.Left.{parts_left, size_left};
 ghost use Rattle.schedule_text.specs.Bytes.{is_name_byte, is_lower, is_digit, is_name, is_digits, value_from, has_leading_zero, number_of, number_in, cut_at, has_mark, without_mark};
 
 use std::alloc::Global;
 use wire_bcs::OutOfMemory;
+
+/// Whether the word is this text. Takes no memory.
+pub fn is_word(word: &[u8], text: &[u8]) -> bool
+    ensures { result ≡ bytes_eq word.now text.now }
+{
+    word == text
+}
 
 fn is_digit(byte: u8) -> bool
     ensures { result ≡ is_digit byte }
@@ -135,7 +143,8 @@ pub(crate) fn cut_at(byte: u8, word: &[u8]) -> Option<(&[u8], &[u8])>
 }
 
 /// The part before the first byte of this value, and the rest after it; the whole text and no rest if it is not there.
-pub(crate) fn cut_part(byte: u8, text: &[u8]) -> (&[u8], Option<&[u8]>)
+/// Takes no memory.
+pub fn cut_part(byte: u8, text: &[u8]) -> (&[u8], Option<&[u8]>)
     ensures parts { slice_split (λ b. b == byte) text.now ≡ result.0.now ∷ parts_left byte result.1 }
     ensures shorter { size_left result.1 ≤ length text.now }
 {
@@ -166,7 +175,7 @@ pub(crate) fn without_mark(byte: u8, word: &[u8]) -> &[u8]
 }
 
 /// The parts of the text between bytes of this value.
-pub(crate) fn parts_of(alloc: Global, byte: u8, text: &[u8]) -> Result<Vec<&[u8]>, OutOfMemory>
+pub fn parts_of(alloc: Global, byte: u8, text: &[u8]) -> Result<Vec<&[u8]>, OutOfMemory>
     ensures { IfOk result (λ v. map (λ x. x.now) v.items ≡ slice_split (λ b. b == byte) text.now) }
 {
     Ok(text.split(move |b| *b == byte).collect(alloc)?)

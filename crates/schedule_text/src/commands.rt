@@ -7,7 +7,7 @@ ghost use Rattle.schedule_text.specs.Bytes.{each_of};
 ghost use Rattle.schedule_text.specs.Left.{parts_left};
 ghost use Rattle.schedule_text.specs.Commands.{place_of, is_place, place_value, is_arg, arg_of, comma_parts, call_words, native_of, kind_of, command_kind, command_parts, command_form, command_value, is_command, command_of, vector_form, vector_value};
 
-use crate::bytes::{cut_at, cut_part, has_mark, is_digits, number_in, without_mark};
+use crate::bytes::{cut_at, cut_part, has_mark, is_digits, is_word, number_in, without_mark};
 use crate::words::{ArgWord, CommandWord};
 use chain_types::{NATIVES, Native};
 use std::alloc::Global;
@@ -102,14 +102,14 @@ fn place_value(word: &[u8]) -> Option<ArgWord>
 fn is_arg(word: &[u8]) -> bool
     ensures { result ≡ is_arg word.now }
 {
-    word == b"gas".as_slice() || is_place(word)
+    is_word(word, b"gas") || is_place(word)
 }
 
 #[tactic(auto, unfolding(crate::specs::Commands::arg_of))]
 fn arg_of(word: &[u8]) -> Option<ArgWord>
     ensures { result ≡ arg_of word.now }
 {
-    if word == b"gas".as_slice() {
+    if is_word(word, b"gas") {
         Some(ArgWord::Gas)
     } else {
         place_value(word)
@@ -121,16 +121,16 @@ fn arg_of(word: &[u8]) -> Option<ArgWord>
 fn command_kind(name: &[u8]) -> Option<CommandKind>
     ensures { result ≡ command_kind name.now }
 {
-    if name == b"split".as_slice() {
+    if is_word(name, b"split") {
         return Some(CommandKind::Split);
     }
-    if name == b"merge".as_slice() {
+    if is_word(name, b"merge") {
         return Some(CommandKind::Merge);
     }
-    if name == b"transfer".as_slice() {
+    if is_word(name, b"transfer") {
         return Some(CommandKind::Transfer);
     }
-    if name == b"vec".as_slice() {
+    if is_word(name, b"vec") {
         return Some(CommandKind::MakeVec);
     }
     native_of(name).map(CommandKind::Call)

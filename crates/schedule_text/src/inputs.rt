@@ -36,15 +36,16 @@ fn is_hex_byte(byte: u8) -> bool
     matches!(byte, b'0'..=b'9' | b'a'..=b'f')
 }
 
-fn are_hex_bytes(word: &[u8]) -> bool
+/// Whether each byte is a hexadecimal digit in lower case. Takes no memory.
+pub fn are_hex_bytes(word: &[u8]) -> bool
     ensures { result ≡ list_all is_hex_byte word.now }
 {
     word.iter().all(|byte| is_hex_byte(*byte))
 }
 
-/// Whether the word is an even number of hexadecimal digits in lower case.
+/// Whether the word is an even number of hexadecimal digits in lower case. Takes no memory.
 #[tactic(auto, unfolding(crate::specs::Inputs::is_hex))]
-pub(crate) fn is_hex(word: &[u8]) -> bool
+pub fn is_hex(word: &[u8]) -> bool
     ensures { result ≡ is_hex word.now }
 {
     word.len() % 2 == 0 && are_hex_bytes(word)
@@ -52,7 +53,7 @@ pub(crate) fn is_hex(word: &[u8]) -> bool
 
 /// The bytes of hexadecimal digits.
 #[tactic(auto, unfolding(crate::specs::Inputs::hex_of))]
-pub(crate) fn hex_of(alloc: Global, word: &[u8]) -> Result<Option<Seq<u8>>, OutOfMemory>
+pub fn hex_of(alloc: Global, word: &[u8]) -> Result<Option<Seq<u8>>, OutOfMemory>
     ensures { IfOk result (λ r. r ≡ hex_of word.now) }
 {
     match hex::decode(alloc, word) {

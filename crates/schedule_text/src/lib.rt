@@ -16,8 +16,9 @@ mod refs;
 mod statement;
 mod words;
 
-pub use bytes::number_in;
+pub use bytes::{cut_part, is_word, number_in, parts_of};
 pub use cause::Cause;
+pub use inputs::{are_hex_bytes, hex_of, is_hex};
 pub use reader::read_schedule;
 pub use statement::Statement;
 pub use words::{

@@ -8,7 +8,7 @@ ghost use Rattle.schedule_text.specs.Inputs.{hex_of};
 ghost use Rattle.schedule_text.specs.Commands.{is_command, command_of};
 ghost use Rattle.schedule_text.specs.Lines.{member_number, role_word, member_setup, member_line, coin_line, counter_line, cap_line, writers_line, after_inputs, front_inputs, block_form, block_of, tx_line, member_and_tx, member_alone, member_and_number, tx_and_members, ack_event, is_origin, origin_of, origins_of, fvote_line, order_line, order_tx, order_end, kept_of, stop_event, stop_line, call_of, raw_value, raw_event, raw_line, ack_line, member_event, event_of, statement_of};
 
-use crate::bytes::{has_mark, is_digits, is_name, number_in, number_of, without_mark};
+use crate::bytes::{has_mark, is_digits, is_name, is_word, number_in, number_of, without_mark};
 use crate::cause::{Cause, LineFault};
 use crate::commands::{command_of, is_command};
 use crate::inputs::{hex_of, input_of, is_hex, is_input};
@@ -31,9 +31,9 @@ fn member_number(word: &[u8]) -> Option<u32>
 fn role_word(word: &[u8]) -> Option<bool>
     ensures { result ≡ role_word word.now }
 {
-    if word == b"honest".as_slice() {
+    if is_word(word, b"honest") {
         Some(true)
-    } else if word == b"faulty".as_slice() {
+    } else if is_word(word, b"faulty") {
         Some(false)
     } else {
         None
@@ -250,7 +250,7 @@ fn members_of(alloc: Global, words: &[&[u8]]) -> Result<Option<Seq<u32>>, OutOfM
 fn is_origin(word: &[u8]) -> bool
     ensures { result ≡ is_origin word.now }
 {
-    word == b"-".as_slice() || is_name(word)
+    is_word(word, b"-") || is_name(word)
 }
 
 fn are_origins(words: &[&[u8]]) -> bool
@@ -270,7 +270,7 @@ fn are_origins(words: &[&[u8]]) -> bool
 fn origin_of(alloc: Global, word: &[u8]) -> Result<Option<Seq<u8>>, OutOfMemory>
     ensures { IfOk result (λ r. r ≡ origin_of word.now) }
 {
-    if word == b"-".as_slice() {
+    if is_word(word, b"-") {
         Ok(None)
     } else {
         Ok(Some(Seq::from_slice(alloc, word)?))
@@ -463,7 +463,7 @@ fn fvote_line(alloc: Global, words: &[&[u8]]) -> Result<Event, LineFault>
 fn order_tx(alloc: Global, tx: &[u8]) -> Result<Event, LineFault>
     ensures { Reads result (order_tx tx.now) }
 {
-    if tx == b"commit".as_slice() {
+    if is_word(tx, b"commit") {
         return Ok(Event::OrderCommit);
     }
     if !is_name(tx) {
@@ -477,7 +477,7 @@ fn order_tx(alloc: Global, tx: &[u8]) -> Result<Event, LineFault>
 fn order_end(word: &[u8], member: &[u8]) -> Result<Event, LineFault>
     ensures { Reads result (order_end word.now member.now) }
 {
-    if word != b"end".as_slice() || !is_digits(member) {
+    if !is_word(word, b"end") || !is_digits(member) {
         return Err(LineFault::Bad(Cause::BadForm));
     }
     let Some(member) = member_number(member) else {
@@ -502,9 +502,9 @@ fn order_line(alloc: Global, words: &[&[u8]]) -> Result<Event, LineFault>
 fn kept_of(word: &[u8]) -> Option<bool>
     ensures { result ≡ kept_of word.now }
 {
-    if word == b"kept".as_slice() {
+    if is_word(word, b"kept") {
         Some(true)
-    } else if word == b"lost".as_slice() {
+    } else if is_word(word, b"lost") {
         Some(false)
     } else {
         None
@@ -542,9 +542,9 @@ fn stop_line(words: &[&[u8]]) -> Result<Event, LineFault>
 fn call_of(word: &[u8]) -> Option<bool>
     ensures { result ≡ call_of word.now }
 {
-    if word == b"vote".as_slice() {
+    if is_word(word, b"vote") {
         Some(true)
-    } else if word == b"hold".as_slice() {
+    } else if is_word(word, b"hold") {
         Some(false)
     } else {
         None
@@ -621,7 +621,7 @@ fn ack_line(alloc: Global, words: &[&[u8]]) -> Result<Event, LineFault>
 {
     match words {
         [member, tx] => ack_event(alloc, member, tx, false),
-        [member, tx, mark] if *mark == b"!".as_slice() => ack_event(alloc, member, tx, true),
+        [member, tx, mark] if is_word(mark, b"!") => ack_event(alloc, member, tx, true),
         _ => Err(LineFault::Bad(Cause::BadForm)),
     }
 }
@@ -631,33 +631,33 @@ fn ack_line(alloc: Global, words: &[&[u8]]) -> Result<Event, LineFault>
 fn member_event(alloc: Global, word: &[u8], words: &[&[u8]]) -> Result<Event, LineFault>
     ensures { Reads result (member_event word.now (map (λ w. w.now) words.now)) }
 {
-    if word == b"see".as_slice() {
+    if is_word(word, b"see") {
         let (member, entries) = member_and_number(u32::MAX, words)?;
         return Ok(Event::See { member, entries });
     }
-    if word == b"run".as_slice() {
+    if is_word(word, b"run") {
         let (member, workers) = member_and_number(16, words)?;
         return Ok(Event::Run { member, workers });
     }
-    if word == b"close".as_slice() {
-        return Ok(Event::Close(member_alone(words)?));
+    if is_word(word, b"close") {
+        return member_alone(words).map(Event::Close);
     }
-    if word == b"end".as_slice() {
-        return Ok(Event::End(member_alone(words)?));
+    if is_word(word, b"end") {
+        return member_alone(words).map(Event::End);
     }
-    if word == b"turn".as_slice() {
-        return Ok(Event::Turn(member_alone(words)?));
+    if is_word(word, b"turn") {
+        return member_alone(words).map(Event::Turn);
     }
-    if word == b"show".as_slice() {
-        return Ok(Event::Show(member_alone(words)?));
+    if is_word(word, b"show") {
+        return member_alone(words).map(Event::Show);
     }
-    if word == b"restart".as_slice() {
-        return Ok(Event::Restart(member_alone(words)?));
+    if is_word(word, b"restart") {
+        return member_alone(words).map(Event::Restart);
     }
-    if word == b"stop".as_slice() {
+    if is_word(word, b"stop") {
         return stop_line(words);
     }
-    if word == b"raw".as_slice() {
+    if is_word(word, b"raw") {
         return raw_line(alloc, words);
     }
     Err(LineFault::Bad(Cause::BadForm))
@@ -668,31 +668,31 @@ fn member_event(alloc: Global, word: &[u8], words: &[&[u8]]) -> Result<Event, Li
 fn event_of(alloc: Global, word: &[u8], words: &[&[u8]]) -> Result<Event, LineFault>
     ensures { Reads result (event_of word.now (map (λ w. w.now) words.now)) }
 {
-    if word == b"tx".as_slice() {
+    if is_word(word, b"tx") {
         return tx_line(alloc, words);
     }
-    if word == b"vote".as_slice() {
+    if is_word(word, b"vote") {
         let (member, tx) = member_and_tx(alloc, words)?;
         return Ok(Event::Vote { member, tx });
     }
-    if word == b"fvote".as_slice() {
+    if is_word(word, b"fvote") {
         return fvote_line(alloc, words);
     }
-    if word == b"cert".as_slice() {
+    if is_word(word, b"cert") {
         let (tx, members) = tx_and_members(alloc, words)?;
         return Ok(Event::Cert { tx, members });
     }
-    if word == b"send".as_slice() {
+    if is_word(word, b"send") {
         let (member, tx) = member_and_tx(alloc, words)?;
         return Ok(Event::Send { member, tx });
     }
-    if word == b"order".as_slice() {
+    if is_word(word, b"order") {
         return order_line(alloc, words);
     }
-    if word == b"ack".as_slice() {
+    if is_word(word, b"ack") {
         return ack_line(alloc, words);
     }
-    if word == b"final".as_slice() {
+    if is_word(word, b"final") {
         let (tx, members) = tx_and_members(alloc, words)?;
         return Ok(Event::Final { tx, members });
     }
@@ -707,19 +707,19 @@ pub(crate) fn statement_of(alloc: Global, words: &[&[u8]]) -> Result<Statement, 
     let [word, words @ ..] = words else {
         return Err(LineFault::Bad(Cause::BadForm));
     };
-    if *word == b"member".as_slice() {
+    if is_word(word, b"member") {
         return member_line(words);
     }
-    if *word == b"coin".as_slice() {
+    if is_word(word, b"coin") {
         return coin_line(alloc, words);
     }
-    if *word == b"counter".as_slice() {
+    if is_word(word, b"counter") {
         return counter_line(alloc, words);
     }
-    if *word == b"cap".as_slice() {
+    if is_word(word, b"cap") {
         return cap_line(alloc, words);
     }
-    if *word == b"writers".as_slice() {
+    if is_word(word, b"writers") {
         return writers_line(words);
     }
     Ok(Statement::Event(event_of(alloc, word, words)?))

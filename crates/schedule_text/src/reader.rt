@@ -107,25 +107,41 @@ fn refusal(line: u64, fault: LineFault) -> ScheduleRefusal
     }
 }
 
-/// Reads all lines, and gives back the schedule.
+/// Adds all lines of the text.
 #[tactic(auto, unfolding(crate::specs::Schedule::read_lines))]
+fn add_lines(alloc: Global, reading: &mut Reading, text: &[u8]) -> Result<(), ScheduleRefusal>
+    requires agrees { Agrees reading.old }
+    requires short { length text.now ≤ 16777216 }
+    ensures ok { OnOk result (read_lines 1 reading.old.schedule (lines_of text.now) ≡ Ok reading.new.schedule) }
+    ensures err { IfErr result (RefusesWith (read_lines 1 reading.old.schedule (lines_of text.now))) }
+{
+    let mut left = Some(text);
+    let mut number = 1;
+    while let Some(text) = left {
+        let (line, after) = cut_part(b'\n', text);
+        if let Err(fault) = read_line(alloc, reading, line) {
+            return Err(refusal(number, fault));
+        }
+        left = after;
+        number += 1;
+    }
+    Ok(())
+}
+
+/// Reads all lines, and gives back the schedule.
 fn read_lines(alloc: Global, text: &[u8]) -> Result<Schedule, ScheduleRefusal>
     requires { length text.now ≤ 16777216 }
     ensures ok { IfOk result (λ s. read_lines 1 no_lines (lines_of text.now) ≡ Ok s) }
     ensures err { IfErr result (RefusesWith (read_lines 1 no_lines (lines_of text.now))) }
 {
     let mut reading = Reading::new(alloc);
-    let mut left = Some(text);
-    let mut number = 1;
-    while let Some(text) = left {
-        let (line, after) = cut_part(b'\n', text);
-        if let Err(fault) = read_line(alloc, &mut reading, line) {
-            return Err(refusal(number, fault));
+    match add_lines(alloc, &mut reading, text) {
+        Ok(()) => Ok(reading.into_schedule()),
+        Err(refusal) => {
+            drop(reading);
+            Err(refusal)
         }
-        left = after;
-        number += 1;
     }
-    Ok(reading.schedule)
 }
 
 /// The schedule that the bytes are. `Refused` names the first bad line, counted from 1, and the

@@ -62,6 +62,13 @@ impl Reading {
         }
     }
 
+    /// The schedule, without what says the same about it.
+    pub(crate) fn into_schedule(self) -> Schedule
+        ensures { result ≡ self.schedule }
+    {
+        self.schedule
+    }
+
     fn tx_check(&self, tx: &[u8]) -> Result<(), Cause>
         requires { Agrees self.now }
         ensures { result ≡ tx_check self.now.schedule tx.now }
@@ -321,14 +328,27 @@ impl Reading {
         Ok(())
     }
 
+    /// Adds the transaction's name that the event gives, if nothing is wrong with the event.
+    fn note_event(&mut self, alloc: Global, event: &Event) -> Result<(), LineFault>
+        requires { Agrees self.old }
+        ensures reads { Reads result (event_check self.old.schedule event.now) }
+        ensures after { OnOk result (self.new ≡ record self.old { txs = self.old.txs ++ option_to_list (tx_name event.now) }) }
+    {
+        self.event_check(event)?;
+        add_tx_name(&mut self.txs, alloc, event)?;
+        Ok(())
+    }
+
     /// Puts an event at the end, if nothing is wrong with it.
     pub(crate) fn add_event(&mut self, alloc: Global, event: Event) -> Result<(), LineFault>
         requires { Agrees self.old }
         ensures reads { ReadsInto result self.new.schedule (add_event self.old.schedule event) }
         ensures agrees { OnOk result (Agrees self.new) }
     {
-        self.event_check(&event)?;
-        add_tx_name(&mut self.txs, alloc, &event)?;
+        if let Err(fault) = self.note_event(alloc, &event) {
+            drop(event);
+            return Err(fault);
+        }
         self.schedule.events.push(event)?;
         Ok(())
     }

@@ -7,12 +7,12 @@ use Rattle.command_words.proofs.list_words.read_numbers.Goals as goal
 pub returns-in_default-number_of-clause-numbers : goal.returns-in_default-number_of-clause-numbers
 returns-in_default-number_of-clause-numbers c =
     let reads = subst (λ (o : Option (Bor (List ℕ))). ReadsOn c.args.low c.args.high c.args.word.now c.loop-left.row c.loop-left.count (parts_left 44 o)) c.in-Some.is c.loop-left.invariant.reads in
-    not_read c.args.low c.args.high c.args.word.now c.loop-left.row c.loop-left.count c.in-Some.text.now c.first_part.result.0.now (parts_left 44 c.first_part.result.1) reads c.first_part.ensures.parts c.in_default-number_of.ensures
+    not_read c.args.low c.args.high c.args.word.now c.loop-left.row c.loop-left.count c.in-Some.text.now c.cut_part.result.0.now (parts_left 44 c.cut_part.result.1) reads c.cut_part.ensures.parts c.in_default-number_of.ensures
 
 pub returns-then-count-eq-MOST_NUMBERS-clause-numbers : goal.returns-then-count-eq-MOST_NUMBERS-clause-numbers
 returns-then-count-eq-MOST_NUMBERS-clause-numbers c =
     let reads = subst (λ (o : Option (Bor (List ℕ))). ReadsOn c.args.low c.args.high c.args.word.now c.loop-left.row c.loop-left.count (parts_left 44 o)) c.in-Some.is c.loop-left.invariant.reads in
-    too_many c.args.low c.args.high c.args.word.now c.loop-left.row c.loop-left.count c.in-Some.text.now c.first_part.result.0.now (parts_left 44 c.first_part.result.1) c.in-Some-number_of.number reads c.first_part.ensures.parts c.in-Some-number_of.ensures
+    too_many c.args.low c.args.high c.args.word.now c.loop-left.row c.loop-left.count c.in-Some.text.now c.cut_part.result.0.now (parts_left 44 c.cut_part.result.1) c.in-Some-number_of.number reads c.cut_part.ensures.parts c.in-Some-number_of.ensures
     c.if-count-eq-MOST_NUMBERS.true c.loop-left.invariant.size
 
 pub loop-left-preserved : goal.loop-left-preserved
@@ -22,7 +22,7 @@ loop-left-preserved c =
     let room = c.loop-left.invariant.room in
     let other = c.if-count-eq-MOST_NUMBERS.false in
     record {
-      reads = one_read c.args.low c.args.high c.args.word.now c.loop-left.row c.loop-left.count c.in-Some.text.now c.first_part.result.0.now (parts_left 44 c.first_part.result.1) c.in-Some-number_of.number reads c.first_part.ensures.parts c.in-Some-number_of.ensures (grind arith);
+      reads = one_read c.args.low c.args.high c.args.word.now c.loop-left.row c.loop-left.count c.in-Some.text.now c.cut_part.result.0.now (parts_left 44 c.cut_part.result.1) c.in-Some-number_of.number reads c.cut_part.ensures.parts c.in-Some-number_of.ensures (grind arith);
       size = search rules;
       room = grind arith;
     }
