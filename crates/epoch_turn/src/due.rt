@@ -10,7 +10,7 @@ use version_store::Store;
 use wire_bcs::OutOfMemory;
 
 /// An admitted transaction.
-#[derive(Clone, Copy, Debug, PartialEq, Eq)]
+#[derive(Clone, Copy)]
 pub struct Due {
     pub tx: Digest,
     /// Whether the certificate that is held of it names the origins with which it was admitted.
@@ -18,7 +18,7 @@ pub struct Due {
 }
 
 /// A cut of the admitted transactions: how many it has, and whether it is the last of its epoch.
-#[derive(Clone, Copy, Debug, PartialEq, Eq)]
+#[derive(Clone, Copy)]
 pub struct CutMark {
     pub size: usize,
     pub last: bool,

@@ -9,7 +9,7 @@ use quorum_core::Committee;
 use std::marker::Model;
 
 /// What an End statement of a member adds.
-#[derive(Clone, Copy, Debug, PartialEq, Eq)]
+#[derive(Clone, Copy)]
 pub enum Counted {
     /// The member was counted before.
     Repeat,

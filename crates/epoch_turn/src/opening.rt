@@ -31,7 +31,7 @@ pub fn revert_uncut(
 
 /// What the end of an epoch leaves: the objects with which the next one opens, by ascending id, and the transactions that
 /// were undone, oldest first.
-#[derive(Debug, Drop)]
+#[derive(Drop)]
 pub struct Turned {
     pub opening: Seq<Object>,
     pub reverted: Seq<Digest>,

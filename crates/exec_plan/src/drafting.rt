@@ -210,34 +210,26 @@ impl<'a> Draft<'a> {
         })
     }
 
-    /// The draft with the task of one more certificate, and the edges to it. More than 2^31 tasks count as out of
-    /// memory.
-    fn with(
-        self,
+    /// Adds the task of one more certificate, and the edges to it. More than 2^31 tasks count as out of memory.
+    fn add(
+        &mut self,
         alloc: Global,
         store: &Store,
         admission: &Admission,
         held: &'a Held,
-    ) -> Result<Draft<'a>, OutOfMemory>
+    ) -> Result<(), OutOfMemory>
         requires { IsSound held.now }
-        ensures { IfOk result (λ draft. draft ≡ drafted_with (held_in store.now) (wants_of admission.now.admission held.now) self.entry held.now) }
+        ensures { OnOk result (self.new ≡ drafted_with (held_in store.now) (wants_of admission.now.admission held.now) self.old held.now) }
     {
-        let mut numbers = self.numbers;
-        let mut tasks = self.tasks;
-        let mut edges = self.edges;
-        if numbers.len() >= LIMIT {
+        if self.numbers.len() >= LIMIT {
             return Err(OutOfMemory);
         }
-        let wanting = wanting(alloc, store, admission, &numbers, held)?;
-        give_all(&mut tasks, wanting.links.as_slice())?;
-        add_edges(&mut edges, wanting.links.as_slice())?;
-        tasks.push(Task::bare(alloc, held, wanting.wants))?;
-        numbers.insert(held.digest)?;
-        Ok(Draft {
-            numbers,
-            tasks,
-            edges,
-        })
+        let Wanted { wants, links } = wanting(alloc, store, admission, &self.numbers, held)?;
+        give_all(&mut self.tasks, links.as_slice())?;
+        add_edges(&mut self.edges, links.as_slice())?;
+        self.tasks.push(Task::bare(alloc, held, wants))?;
+        self.numbers.insert(held.digest)?;
+        Ok(())
     }
 }
 
@@ -248,11 +240,17 @@ impl<'a> Draft<'a> {
         ensures jobs { IfOk result (λ plan. plan.jobs ≡ self.entry.tasks) }
         ensures edges { IfOk result (λ plan. plan.edges ≡ self.entry.edges) }
     {
-        let tasks = Seq::from_vec(self.tasks);
-        if tasks.len() >= LIMIT as u64 || self.edges.len() >= LIMIT as u64 {
+        if self.tasks.len() >= LIMIT || self.edges.len() >= LIMIT as u64 {
+            drop(self);
             return Err(OutOfMemory);
         }
-        match Plan::new(alloc, tasks, self.edges) {
+        let Draft {
+            numbers,
+            tasks,
+            edges,
+        } = self;
+        drop(numbers);
+        match Plan::new(alloc, Seq::from_vec(tasks), edges) {
             Ok(plan) => Ok(plan),
             Err(PlanRefusal::OutOfMemory) => Err(OutOfMemory),
             Err(PlanRefusal::BadEdge(_)) => unreachable!(),
@@ -260,22 +258,22 @@ impl<'a> Draft<'a> {
     }
 }
 
-/// The draft with the task of the certificate at a place, if there is one.
+/// Adds the task of the certificate at a place, if there is one.
 #[tactic(auto, using(protocol_spec::proofs::ListLemmas::each_at))]
-fn with_at<'a>(
-    draft: Draft<'a>,
+fn add_at<'a>(
+    draft: &mut Draft<'a>,
     alloc: Global,
     store: &Store,
     admission: &Admission,
     held: &'a [Held],
     place: usize,
-) -> Result<Draft<'a>, OutOfMemory>
+) -> Result<(), OutOfMemory>
     requires { Each IsSound held.now }
-    ensures { IfOk result (λ more. more ≡ drafted_at (held_in store.now) admission.now.admission draft.entry (slice_get held.now place)) }
+    ensures { OnOk result (draft.new ≡ drafted_at (held_in store.now) admission.now.admission draft.old (slice_get held.now place)) }
 {
     match held.get(place) {
-        Some(held) => draft.with(alloc, store, admission, held),
-        None => Ok(draft),
+        Some(held) => draft.add(alloc, store, admission, held),
+        None => Ok(()),
     }
 }
 
@@ -293,8 +291,10 @@ pub(crate) fn draft_all<'a>(
     let mut draft = Draft::with_room(alloc, places.len())?;
     let mut rest = places;
     while let [place, after @ ..] = rest {
-        let more = with_at(draft, alloc, store, admission, held, *place)?;
-        draft = more;
+        let Ok(()) = add_at(&mut draft, alloc, store, admission, held, *place) else {
+            drop(draft);
+            return Err(OutOfMemory);
+        };
         rest = after;
     }
     Ok(draft)

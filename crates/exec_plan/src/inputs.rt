@@ -52,7 +52,7 @@ pub(crate) fn is_let(admission: &Admission, held: &Held) -> bool
 }
 
 /// An object that a transaction names: a version, or a shared object and where it begins.
-#[derive(Clone, Copy, Debug)]
+#[derive(Clone, Copy)]
 pub(crate) enum Named {
     Version(ObjectKey),
     Shared { id: ObjectId, initial: u64 },
@@ -60,7 +60,7 @@ pub(crate) enum Named {
 
 /// What a transaction wants: a version, and who made it; nobody, if a shared object was not assigned.
 /// Contracts see the definitions' record of it.
-#[derive(Debug, Drop)]
+#[derive(Drop)]
 pub(crate) struct Want {
     key: ObjectKey,
     maker: Option<Producer>,

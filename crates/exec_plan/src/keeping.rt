@@ -2,6 +2,7 @@
 
 ghost use Rattle.std.specs.Prelude.{◌≡◌, ◌∷◌, ◌++◌, ◌&&◌, [], IfOk, MatchOption, OnOk, false, map, reverse};
 ghost use Rattle.std.specs.List.{list_all};
+ghost use Rattle.chain_types.specs.Digests.{consumed_keys};
 ghost use Rattle.protocol_spec.specs.Block.Execution.{written_keys};
 ghost use Rattle.protocol_spec.specs.Member.Rounds.{writes_new};
 ghost use Rattle.protocol_spec.specs.Member.Versions.{is_executed};
@@ -13,7 +14,7 @@ ghost use Rattle.exec_plan.specs.Tasks.{is_origin_kept, keep_as, kept_of};
 ghost use Rattle.exec_plan.specs.declared.task.Outcome.TheVariants.{Done};
 
 use crate::task::{Outcome, Task, Want};
-use chain_types::Producer;
+use chain_types::{ObjectKey, Producer};
 use digest_core::Digest;
 use effects_core::HashedEffects;
 use ptb_run::HashedExecuted;
@@ -55,6 +56,20 @@ fn keeps(store: &Store, task: &Task<'_>, gave: &HashedExecuted) -> Result<bool, 
     store.are_new(gave.objects())
 }
 
+/// Adds a copy of the effects that a task gave, and answers the versions that its transaction consumes.
+fn note(
+    alloc: Global,
+    effects: &mut Seq<HashedEffects>,
+    task: &Task<'_>,
+    gave: &HashedExecuted,
+) -> Result<Seq<ObjectKey>, OutOfMemory>
+    ensures copied { OnOk result (effects.new ≡ effects.old ++ gave.now.effects ∷ []) }
+    ensures consumed { IfOk result (λ keys. keys ≡ consumed_keys task.now.tx) }
+{
+    effects.push(gave.effects().copy()?)?;
+    task.consumed(alloc)
+}
+
 /// Writes what a task gave, if it is kept, and adds a copy of its effects.
 fn keep_done(
     alloc: Global,
@@ -69,12 +84,19 @@ fn keep_done(
     ensures copied { OnOk result (effects.new ≡ with_effects effects.old (keep_as store.old.opening store.old.executed task.now (Done gave))) }
     ensures opening { store.new.opening ≡ store.old.opening }
 {
-    if !keeps(store, task, &gave)? {
+    let Ok(kept) = keeps(store, task, &gave) else {
+        drop(gave);
+        return Err(OutOfMemory);
+    };
+    if !kept {
+        drop(gave);
         return Ok(());
     }
+    let Ok(consumed) = note(alloc, effects, task, &gave) else {
+        drop(gave);
+        return Err(OutOfMemory);
+    };
     let (hashed, objects) = gave.into_parts();
-    effects.push(hashed.copy()?)?;
-    let consumed = task.consumed(alloc)?;
     store.write(hashed, objects, consumed)
 }
 

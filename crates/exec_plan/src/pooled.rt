@@ -1,6 +1,7 @@
 //! A run by its plan, on workers in threads of their own.
 
 ghost use Rattle.std.specs.Prelude.{◌≡◌, ◌<◌, ◌≤◌, IfOk, OnOk, map};
+ghost use Rattle.dag_core.specs.Plans.{plan_outputs};
 ghost use Rattle.protocol_spec.specs.Chain.Words.{Each};
 ghost use Rattle.protocol_spec.specs.Member.Rounds.{rounds};
 ghost use Rattle.exec_plan.specs.Books.{AreApart, IsSound, books_of, effects_of};
@@ -9,8 +10,10 @@ ghost use Rattle.exec_plan.specs.Waits.{IsWaiting};
 
 use crate::ready::{Ready, plan_ready};
 use crate::settled::settle;
+use crate::task::Outcome;
 use crate::waiting::DependencyIndex;
 use dag_pool::{Gate, run_plan};
+use digest_core::Digest;
 use effects_core::HashedEffects;
 use protocol_spec::Held;
 use std::alloc::Global;
@@ -26,6 +29,23 @@ fn workers_for(ready: &Ready<'_>, workers: u32) -> u32
     ensures { (0 < result) × (result ≤ 16) }
 {
     workers.min(ready.plan.tasks().max(1))
+}
+
+/// The outputs of a plan by 1 to 16 workers, in the order of its tasks.
+fn outputs_of<R: Threads + Sync, G: Gate + Sync>(
+    rt: &R,
+    alloc: Global,
+    ready: &Ready<'_>,
+    workers: u32,
+    gate: &G,
+) -> Result<Seq<(Digest, Outcome)>, OutOfMemory>
+    requires { (0 < workers) × (workers ≤ 16) }
+    ensures { IfOk result (λ outputs. outputs ≡ plan_outputs ready.now.plan) }
+{
+    let (board, seat) = Board::lay(alloc, &ready.plan)?;
+    let workers = workers_for(ready, workers);
+    let run = run_plan(rt, alloc, &ready.plan, &board, seat, workers, gate)?;
+    Ok(run.outputs)
 }
 
 /// Executes, by 1 to 16 workers, all held certificates that are ready, and answers their effects in the order of the
@@ -53,8 +73,11 @@ pub fn run_pooled<R: Threads + Sync, G: Gate + Sync>(
     ensures opening { store.new.opening ≡ store.old.opening }
 {
     let ready = plan_ready(alloc, store, admission, waiting, held)?;
-    let (board, seat) = Board::lay(alloc, &ready.plan)?;
-    let workers = workers_for(&ready, workers);
-    let run = run_plan(rt, alloc, &ready.plan, &board, seat, workers, gate)?;
-    settle(alloc, store, admission, waiting, held, &ready, run.outputs)
+    let Ok(outputs) = outputs_of(rt, alloc, &ready, workers, gate) else {
+        drop(ready);
+        return Err(OutOfMemory);
+    };
+    let settled = settle(alloc, store, admission, waiting, held, &ready, outputs);
+    drop(ready);
+    settled
 }

@@ -12,14 +12,12 @@ ghost use Rattle.exec_plan.specs.Tasks.{edges_of, tasks_of};
 ghost use Rattle.exec_plan.specs.Waits.{IsWaiting};
 
 use crate::keeping::keep_all;
-use crate::past::PlannedView;
 use crate::ready::{Ready, plan_ready};
 use crate::task::Outcome;
 use crate::waiting::DependencyIndex;
 use dag_core::evaluate_plain;
 use digest_core::Digest;
 use effects_core::HashedEffects;
-use indexmap::IndexSet;
 use protocol_spec::Held;
 use std::alloc::Global;
 use version_assign::Admission;
@@ -60,9 +58,7 @@ pub fn settle(
         ready.plan.jobs.as_slice(),
         outputs,
     )?;
-    let none = IndexSet::new(alloc);
-    let past = PlannedView::of(store, &none);
-    waiting.file_each(&past, admission, held, ready.taken.as_slice())?;
+    waiting.file_now(store, admission, held, ready.taken.as_slice())?;
     Ok(effects)
 }
 
@@ -85,6 +81,11 @@ pub fn run_planned(
     ensures opening { store.new.opening ≡ store.old.opening }
 {
     let ready = plan_ready(alloc, store, admission, waiting, held)?;
-    let outputs = evaluate_plain(alloc, &ready.plan)?;
-    settle(alloc, store, admission, waiting, held, &ready, outputs)
+    let Ok(outputs) = evaluate_plain(alloc, &ready.plan) else {
+        drop(ready);
+        return Err(OutOfMemory);
+    };
+    let settled = settle(alloc, store, admission, waiting, held, &ready, outputs);
+    drop(ready);
+    settled
 }

@@ -21,7 +21,7 @@ use wire_bcs::{OutOfMemory, Seq};
 
 /// What an edge carries of a wanted version: the object, or that the transaction that was to make it did not, or
 /// that this was not executed.
-#[derive(Clone, Copy, Debug)]
+#[derive(Clone, Copy)]
 pub enum Carry {
     Object(HashedObject),
     Lacks,
@@ -29,7 +29,7 @@ pub enum Carry {
 }
 
 /// The outcome of a task: the first that applies.
-#[derive(Debug, Drop)]
+#[derive(Drop)]
 pub enum Outcome {
     /// It was executed.
     Done(HashedExecuted),
@@ -42,7 +42,7 @@ pub enum Outcome {
 }
 
 /// Where a wanted version comes from: it is held, an earlier task makes it, or nobody does.
-#[derive(Clone, Copy, Debug)]
+#[derive(Clone, Copy)]
 pub enum Slot {
     Here(HashedObject),
     Edge,
@@ -50,7 +50,7 @@ pub enum Slot {
 }
 
 /// A version that a task wants, and who makes it.
-#[derive(Clone, Copy, Debug)]
+#[derive(Clone, Copy)]
 pub struct Want {
     pub key: ObjectKey,
     pub origin: Producer,
@@ -59,7 +59,7 @@ pub struct Want {
 
 /// The execution of one certified transaction, whose certificate is held. Contracts see its digest, the transaction, what it
 /// wants, and the keys of what it hands on, one for each outgoing edge. No task holds a result.
-#[derive(Debug, Drop)]
+#[derive(Drop)]
 pub struct Task<'a> {
     held: &'a Held,
     wants: Seq<Want>,
@@ -77,7 +77,7 @@ impl<'a> Model for Task<'a> {
 }
 
 /// The objects on which a task executes, or the first wanted version for which there is none.
-#[derive(Debug, Drop)]
+#[derive(Drop)]
 enum Gathered {
     All(Seq<HashedObject>),
     Lacking(Want),

@@ -121,13 +121,7 @@ impl DependencyIndex {
         ensures { OnOk result (IsWaiting store.now admission.now.admission held.now self.new) }
     {
         let woken = self.wake(txs)?;
-        let none = IndexSet::new(self.alloc);
-        self.file_each(
-            &PlannedView::of(store, &none),
-            admission,
-            held,
-            woken.as_slice(),
-        )
+        self.file_now(store, admission, held, woken.as_slice())
     }
 
     /// Files the certificate at a place, if there is one.
@@ -164,6 +158,21 @@ impl DependencyIndex {
             rest = after;
         }
         Ok(())
+    }
+
+    /// [`DependencyIndex::file_each`] with the store as it is.
+    pub(crate) fn file_now(
+        &mut self,
+        store: &Store,
+        admission: &Admission,
+        held: &[Held],
+        places: &[usize],
+    ) -> Result<(), OutOfMemory>
+        requires { IsFiled store.now admission.now.admission places.now held.now self.old }
+        ensures { OnOk result (IsWaiting store.now admission.now.admission held.now self.new) }
+    {
+        let none = IndexSet::new(self.alloc);
+        self.file_each(&PlannedView::of(store, &none), admission, held, places)
     }
 
     /// The places of all certificates that wait for nothing, in order.

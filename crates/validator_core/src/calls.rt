@@ -106,7 +106,10 @@ fn keep<D: Keeper>(
 {
     match append_encoded(state.allocator(), keeper, member, &kept, encoded) {
         Ok(()) => {}
-        Err(why) => return Err(why),
+        Err(why) => {
+            drop(kept);
+            return Err(why);
+        }
     }
     match take(state, kept, digest) {
         Ok(()) => Ok(()),
@@ -169,9 +172,13 @@ pub(crate) fn vote<D: Keeper, S: Sealer>(
     let (tx, decision, tx_bytes) = state.vote(sealer, bytes)?;
     let epoch = state.epoch();
     let Ok(sealed) = seal_vote(state.allocator(), sealer, member, epoch, &decision) else {
+        drop(tx);
+        drop(decision);
         return Err(VoteRefusal::OutOfMemory);
     };
     if !decision.fresh {
+        drop(tx);
+        drop(decision);
         return Ok(Voted {
             sealed,
             fresh: false,
@@ -234,7 +241,10 @@ pub(crate) fn hold<D: Keeper, S: Sealer>(
 {
     let (cert, holding) = state.hold(committee, sealer, bytes)?;
     match holding {
-        CertificateOutcome::Again => Ok(false),
+        CertificateOutcome::Again => {
+            drop(cert);
+            Ok(false)
+        }
         CertificateOutcome::New(digest) => {
             keep(state, keeper, member, Record::Hold(cert), digest, bytes)?;
             Ok(true)

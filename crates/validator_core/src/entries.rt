@@ -20,7 +20,7 @@ use quorum_core::{Committee, Sealer, Signer};
 use wire_bcs::{OutOfMemory, Unread};
 
 /// What an entry is to the member, before it does anything.
-#[derive(Debug, Drop)]
+#[derive(Drop)]
 pub(crate) enum EntryOutcome {
     /// A valid certificate whose transaction is not in the sequence.
     Takes(Held),
@@ -107,15 +107,23 @@ impl State {
         ensures may { IfOk result (MayArrive committee.now self.now.member.sequence) }
     {
         if cert.tx.epoch != self.epoch() {
+            drop(cert);
             return Ok(EntryOutcome::Ignores(Ignore::Epoch));
         }
         let digest = encoded_digest(&cert.tx, tx_bytes);
         match check_cert(self.alloc, &cert, &digest, committee, sealer) {
             Ok(()) => {}
-            Err(CertRefusal::OutOfMemory) => return Err(OutOfMemory),
-            Err(_refusal) => return Ok(EntryOutcome::Ignores(Ignore::Cert)),
+            Err(CertRefusal::OutOfMemory) => {
+                drop(cert);
+                return Err(OutOfMemory);
+            }
+            Err(_refusal) => {
+                drop(cert);
+                return Ok(EntryOutcome::Ignores(Ignore::Cert));
+            }
         }
         if self.is_ordered(&digest) {
+            drop(cert);
             return Ok(EntryOutcome::Ignores(Ignore::Repeat));
         }
         let cert = SharedCertificate::new(self.alloc, cert)?;

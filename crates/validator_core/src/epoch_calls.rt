@@ -47,12 +47,15 @@ fn keep_run<D: Keeper>(
         Ok(None) => return Ok(()),
         Err(OutOfMemory) => return Err(JournalFault::OutOfMemory),
     };
-    match append(state.allocator(), keeper, member, &kept) {
-        Ok(()) => {}
-        Err(why) => return Err(why),
+    let appended = append(state.allocator(), keeper, member, &kept);
+    drop(kept);
+    match appended {
+        Ok(()) => {
+            state.count_run();
+            Ok(())
+        }
+        Err(why) => Err(why),
     }
-    state.count_run();
-    Ok(())
 }
 
 /// Lets a member that is up execute what it holds: the record of a run is appended before the call answers.

@@ -23,7 +23,7 @@ use quorum_core::{Committee, Sealer};
 use wire_bcs::Unread;
 
 /// What becomes of a certificate that is not refused.
-#[derive(Clone, Copy, Debug, PartialEq, Eq)]
+#[derive(Clone, Copy)]
 pub(crate) enum CertificateOutcome {
     /// Its transaction's certificate is held already.
     Again,
@@ -137,7 +137,12 @@ impl State {
             Err(Unread::OutOfMemory) => return Err(HoldRefusal::OutOfMemory),
         };
         let digest = encoded_digest(&cert.tx, tx_bytes);
-        let holding = self.hold_on(committee, sealer, &cert, digest)?;
-        Ok((cert, holding))
+        match self.hold_on(committee, sealer, &cert, digest) {
+            Ok(holding) => Ok((cert, holding)),
+            Err(refusal) => {
+                drop(cert);
+                Err(refusal)
+            }
+        }
     }
 }

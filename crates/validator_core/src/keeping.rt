@@ -16,7 +16,7 @@ use protocol_spec::{CloseRefusal, HoldRefusal, RunRefusal, SeeRefusal, TurnRefus
 use std::alloc::Global;
 
 /// Why a record was not kept.
-#[derive(Clone, Copy, Debug, PartialEq, Eq)]
+#[derive(Clone, Copy)]
 pub(crate) enum JournalFault {
     KeepFault,
     OutOfMemory,

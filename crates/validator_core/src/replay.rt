@@ -102,17 +102,27 @@ impl State {
         ensures limit { self.new.writers ≡ self.old.writers }
     {
         if self.check_hold().is_err() {
+            drop(cert);
             return Ok(false);
         }
-        let digest = tx_digest(self.allocator(), &cert.tx)?;
+        let Ok(digest) = tx_digest(self.allocator(), &cert.tx) else {
+            drop(cert);
+            return Err(OutOfMemory);
+        };
         match self.hold_on(committee, sealer, &cert, digest) {
-            Ok(CertificateOutcome::Again) => Ok(false),
+            Ok(CertificateOutcome::Again) => {
+                drop(cert);
+                Ok(false)
+            }
             Ok(CertificateOutcome::New(digest) | CertificateOutcome::Fork { digest, .. }) => {
                 let cert = SharedCertificate::new(self.allocator(), cert)?;
                 self.take_hold(Held { digest, cert })?;
                 Ok(true)
             }
-            Err(HoldRefusal::OutOfMemory) => Err(OutOfMemory),
+            Err(HoldRefusal::OutOfMemory) => {
+                drop(cert);
+                Err(OutOfMemory)
+            }
             Err(
                 HoldRefusal::Down
                 | HoldRefusal::Halted { .. }
@@ -123,7 +133,10 @@ impl State {
                 | HoldRefusal::Cert(_)
                 | HoldRefusal::KeepFault
                 | HoldRefusal::Fork { .. },
-            ) => Ok(false),
+            ) => {
+                drop(cert);
+                Ok(false)
+            }
         }
     }
 

@@ -20,7 +20,7 @@ use wire_bcs::{Duplicate, Seq, Unread};
 
 /// A vote that a member gives: for the transaction of this digest, naming these origins. It is not fresh if
 /// the member had given it before.
-#[derive(Debug, Drop)]
+#[derive(Drop)]
 pub(crate) struct DecidedVote {
     pub digest: Digest,
     pub origins: Seq<Option<Digest>>,
@@ -171,7 +171,12 @@ impl State {
         };
         let sealed = is_sealed(sealer, &signed, tx_bytes);
         let digest = encoded_digest(&signed.tx, tx_bytes);
-        let decision = self.vote_on(&signed.tx, digest, sealed)?;
-        Ok((signed.tx, decision, tx_bytes))
+        match self.vote_on(&signed.tx, digest, sealed) {
+            Ok(decision) => Ok((signed.tx, decision, tx_bytes)),
+            Err(refusal) => {
+                drop(signed);
+                Err(refusal)
+            }
+        }
     }
 }

@@ -18,7 +18,7 @@ use chain_types::{
 use version_store::Store;
 
 /// A case of the vote rule that looks at one object after the other.
-#[derive(Clone, Copy, Debug, PartialEq, Eq)]
+#[derive(Clone, Copy)]
 pub(crate) enum Case {
     Absent,
     WrongDigest,

@@ -19,7 +19,7 @@ use version_store::Store;
 use wire_bcs::{OutOfMemory, Seq};
 
 /// A vote that was given: the versions that its transaction consumes, and the origins that it named.
-#[derive(Debug, Drop)]
+#[derive(Drop)]
 struct Given {
     consumed: Seq<ObjectKey>,
     origins: Seq<Option<Digest>>,

@@ -11,11 +11,11 @@ keep_all-requires c =
     can_keep c.args.store.now c.args.admission.now.admission c.args.held.now c.args.ready.now.plan.jobs c.as_slice.result.now c.args.ready.now.plan.edges c.args.outputs c.args.outputs c.requires.apart
     c.requires.tasks c.requires.edges c.requires.outputs c.as_slice.ensures.value refl c.requires.sound
 
-pub file_each-requires : goal.file_each-requires
-file_each-requires c =
+pub file_now-requires : goal.file_now-requires
+file_now-requires c =
     files c.args.store.now c.args.admission.now.admission c.args.held.now c.args.ready.now.plan.jobs c.as_slice.result.now c.args.ready.now.plan.edges c.args.outputs c.args.outputs c.requires.apart
     c.requires.tasks c.requires.edges c.requires.outputs c.as_slice.ensures.value refl
-    c.args.ready.now.taken c.as_slice-2.result.now c.args.waiting.now c.of-past.result c.as_slice-2.ensures.value (c.of-past.ensures ∙ c.in_ok-keep_all.ensures.written) c.requires.parked
+    c.args.ready.now.taken c.as_slice-2.result.now c.args.waiting.now c.keep_all.new.store c.as_slice-2.ensures.value c.in_ok-keep_all.ensures.written c.requires.parked
 
 pub returns-clause-written : goal.returns-clause-written
 returns-clause-written c =
