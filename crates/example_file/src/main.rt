@@ -29,9 +29,9 @@ fn journal_in(rt: &HostRuntime, path: &str) -> Result<DiskJournal<FileDisk>> {
 
 /// Opens member 0 from its file.
 fn open(rt: &HostRuntime, path: &str) -> Result<Node> {
-    let committee = Committee::new(&[1, 1, 1, 1]).map_err(Error::from)?;
+    let committee = Committee::new(&[1, 1, 1, 1])?;
     let coin = coin_of(b"alice", 0, 10_000);
-    let coins = Seq::from_slice(rt.alloc(), &[coin]).map_err(Error::from)?;
+    let coins = Seq::from_slice(rt.alloc(), &[coin])?;
     let journal = journal_in(rt, path)?;
     let sealer = KeyedSeal::new([0x5a; 32]);
     let node = Member::open(rt.alloc(), 0, &committee, &coins, None, journal, sealer)?;
@@ -41,7 +41,7 @@ fn open(rt: &HostRuntime, path: &str) -> Result<Node> {
 /// Opens the node from its file, asks it for its vote, and drops it: nothing of it is left but the file.
 fn ask(rt: &HostRuntime, path: &str, bytes: &[u8]) -> Result<()> {
     let mut node = open(rt, path)?;
-    let voted = node.vote(bytes).map_err(Error::from);
+    let voted = node.vote(bytes);
     drop(node);
     let Voted { fresh, .. } = voted?;
     let when = if fresh {
@@ -55,7 +55,7 @@ fn ask(rt: &HostRuntime, path: &str, bytes: &[u8]) -> Result<()> {
 
 fn main(rt: HostRuntime) -> Result<()> {
     let mut source = InSource::new(rt.reader());
-    let bytes = read_text(rt.alloc(), 65_536, &mut source).map_err(Error::from)?;
+    let bytes = read_text(rt.alloc(), 65_536, &mut source)?;
     let path = "example_file.records";
     ask(&rt, path, bytes.as_slice())?;
     ask(&rt, path, bytes.as_slice())?;

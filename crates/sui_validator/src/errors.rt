@@ -12,13 +12,14 @@ use protocol_spec::{
     TurnRefusal, VoteRefusal,
 };
 use quorum_core::CommitteeRefusal;
-use std::{error, fmt};
+use std::error;
+use std::fmt::{self, Display};
 use wallet_core::{EncodeRefusal, GatherRefusal};
 use wire_bcs::{OutOfMemory, Unread};
 
 /// Why a call did not do what was asked: the refusal of any call of this crate. Each of its causes has a sentence with the ids and
 /// numbers in it.
-#[derive(Clone, Copy, Debug, PartialEq, Eq)]
+#[derive(Clone, Copy, PartialEq, Eq)]
 pub enum Error {
     Open(OpenRefusal),
     Vote(VoteRefusal),
@@ -58,9 +59,9 @@ impl fmt::Display for OpenRefusal {
             OpenRefusal::ObjectTwice => f.write_str("an object comes twice among the opening ones"),
             OpenRefusal::ReadFault => f.write_str("a record of the journal could not be read"),
             OpenRefusal::BadRecord { place, why } => {
-                write!(f, "{}", StartRefusal::BadRecord { place, why })
+                StartRefusal::BadRecord { place, why }.fmt(f)
             }
-            OpenRefusal::OutOfMemory => write!(f, "{OutOfMemory}"),
+            OpenRefusal::OutOfMemory => OutOfMemory.fmt(f),
         }
     }
 }
@@ -68,24 +69,36 @@ impl fmt::Display for OpenRefusal {
 impl fmt::Display for Error {
     fn fmt<W: fmt::Write>(&self, f: &mut fmt::Formatter<W>) -> fmt::Result {
         match *self {
-            Error::Open(refusal) => write!(f, "{refusal}"),
-            Error::Vote(refusal) => write!(f, "{refusal}"),
-            Error::Hold(refusal) => write!(f, "{refusal}"),
-            Error::See(refusal) => write!(f, "{refusal}"),
-            Error::Run(refusal) => write!(f, "{refusal}"),
-            Error::Close(refusal) => write!(f, "{refusal}"),
-            Error::End(refusal) => write!(f, "{refusal}"),
-            Error::Turn(refusal) => write!(f, "{refusal}"),
-            Error::Ack(refusal) => write!(f, "{refusal}"),
-            Error::Committee(refusal) => write!(f, "{refusal}"),
-            Error::Disk(refusal) => write!(f, "{refusal}"),
-            Error::Unread(unread) => write!(f, "{unread}"),
-            Error::Encode(refusal) => write!(f, "{refusal}"),
-            Error::Gather(refusal) => write!(f, "{refusal}"),
-            Error::Client(refusal) => write!(f, "{refusal}"),
-            Error::Outside(fault) => write!(f, "{fault}"),
-            Error::OutOfMemory => write!(f, "{OutOfMemory}"),
+            Error::Open(refusal) => refusal.fmt(f),
+            Error::Vote(refusal) => refusal.fmt(f),
+            Error::Hold(refusal) => refusal.fmt(f),
+            Error::See(refusal) => refusal.fmt(f),
+            Error::Run(refusal) => refusal.fmt(f),
+            Error::Close(refusal) => refusal.fmt(f),
+            Error::End(refusal) => refusal.fmt(f),
+            Error::Turn(refusal) => refusal.fmt(f),
+            Error::Ack(refusal) => refusal.fmt(f),
+            Error::Committee(refusal) => refusal.fmt(f),
+            Error::Disk(refusal) => refusal.fmt(f),
+            Error::Unread(unread) => unread.fmt(f),
+            Error::Encode(refusal) => refusal.fmt(f),
+            Error::Gather(refusal) => refusal.fmt(f),
+            Error::Client(refusal) => refusal.fmt(f),
+            Error::Outside(fault) => fault.fmt(f),
+            Error::OutOfMemory => OutOfMemory.fmt(f),
         }
+    }
+}
+
+impl fmt::Debug for OpenRefusal {
+    fn fmt<W: fmt::Write>(&self, f: &mut fmt::Formatter<W>) -> fmt::Result {
+        fmt::Display::fmt(self, f)
+    }
+}
+
+impl fmt::Debug for Error {
+    fn fmt<W: fmt::Write>(&self, f: &mut fmt::Formatter<W>) -> fmt::Result {
+        fmt::Display::fmt(self, f)
     }
 }
 

@@ -21,7 +21,7 @@ use validator_core::Validator;
 use wire_bcs::{OutOfMemory, Seq};
 
 /// Why a member is not opened, in the order in which the cases are tried.
-#[derive(Clone, Copy, Debug, PartialEq, Eq)]
+#[derive(Clone, Copy, PartialEq, Eq)]
 pub enum OpenRefusal {
     /// The committee has this many members, and no member of this number.
     NoMember { number: u32, members: u32 },
