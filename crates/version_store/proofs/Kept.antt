@@ -15,7 +15,7 @@ use Rattle.version_store.specs.declared.maps.Maps.{Maps}
 use Rattle.version_store.specs.declared.maps.Ran.{Ran}
 use Rattle.version_store.specs.Stores.{Stored, are_new, executed_as, held_in, with_execution}
 use Rattle.version_store.specs.Kept.{IsKept, kept_as, kept_object, stored, stored_as, written_in}
-use Rattle.version_store.specs.Changes.{Adds, Holds, IsEmpty, Opens, SameEntries}
+use Rattle.version_store.specs.Changes.{Adds, IsEmpty, Opens, SameEntries}
 use Rattle.version_store.specs.Steps.{with_versions, with_all_newer}
 use Rattle.version_store.proofs.Held.{made, new_go_last, objects_kept, objects_made, versions_more, versions_opened}
 use Rattle.version_store.proofs.Newest.{newest_more, deleted_more, consumed_more}
@@ -173,16 +173,6 @@ module _ (maps : Maps) (objects : List Object) (versions_are : maps.versions.ent
           let lengths : length maps.versions.entries ≡ length objects =
           ap length entries_opened ∙ length-map (map (made producers.Opening) objects) kept_as ∙ length-map objects (made producers.Opening) in
           grind arith
-
--- empty maps, with room, that these objects were added to
-pub holds_opening : {none mid new : Maps} {objects slice : List Object} → IsEmpty none → SameEntries none mid → Holds mid new producers.Opening slice → slice ≡ objects → Opens new objects
-holds_opening {none} {mid} {new} {objects} {slice} empty same holds os = record {
-  versions = holds.versions ∙ ap (λ es. with_versions producers.Opening es slice) (same.versions ∙ empty.versions) ∙ ap (with_versions producers.Opening []) os;
-  newest = holds.newest ∙ ap (λ es. with_all_newer es slice) (same.newest ∙ empty.newest) ∙ ap (with_all_newer []) os;
-  executed = ap (λ m. m.entries) holds.executed ∙ same.executed ∙ empty.executed;
-  consumers = ap (λ m. m.entries) holds.consumers ∙ same.consumers ∙ empty.consumers;
-  deleted = ap (λ m. m.keys) holds.deleted ∙ same.deleted ∙ empty.deleted;
-}
 
 pub opens : {n : ℕ} {maps : Maps} {objects : List Object} → Opens maps objects → n ≡ length objects → are_new [] objects ≡ true → IsKept n maps × (stored n maps ≡ opening_of objects)
 opens {n} {maps} {objects} o count fresh = (
