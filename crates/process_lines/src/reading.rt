@@ -1,49 +1,14 @@
 //! Which request a line is.
 
-ghost use Rattle.std.specs.Prelude.{◌≡◌, ◌<◌, ◌≤◌, ◌==◌, IfOk, IfSome, bytes_eq, map};
-ghost use Rattle.std.specs.List.{list_all, slice_split};
+ghost use Rattle.std.specs.Prelude.{◌≡◌, ◌<◌, ◌≤◌, IfOk, IfSome};
 ghost use Rattle.schedule_text.specs.Bytes.{number_in};
-ghost use Rattle.schedule_text.specs.Inputs.{hex_of, is_hex, is_hex_byte};
 ghost use Rattle.process_lines.specs.Requests.{HasWorkers, bytes_in, digest_in, digest_of_bytes, number_of_word, request_of, request_of_one, request_of_three, request_of_two, see_with, version_with};
 
 use crate::request::Request;
 use digest_core::Digest;
-use hex::FromHexError;
-use schedule_text::number_in;
+use schedule_text::{hex_of, is_hex, is_word, number_in, parts_of};
 use std::alloc::Global;
 use wire_bcs::{OutOfMemory, Seq};
-
-fn is_hex_byte(byte: u8) -> bool
-    ensures { result ≡ is_hex_byte byte }
-{
-    matches!(byte, b'0'..=b'9' | b'a'..=b'f')
-}
-
-fn are_hex_bytes(word: &[u8]) -> bool
-    ensures { result ≡ list_all is_hex_byte word.now }
-{
-    word.iter().all(|byte| is_hex_byte(*byte))
-}
-
-/// Whether the word is an even number of hexadecimal digits in lower case.
-#[tactic(auto, unfolding(schedule_text::specs::Inputs::is_hex))]
-fn is_hex(word: &[u8]) -> bool
-    ensures { result ≡ is_hex word.now }
-{
-    word.len() % 2 == 0 && are_hex_bytes(word)
-}
-
-/// The bytes of hexadecimal digits.
-#[tactic(auto, unfolding(schedule_text::specs::Inputs::hex_of))]
-fn decoded(alloc: Global, word: &[u8]) -> Result<Option<Seq<u8>>, OutOfMemory>
-    ensures { IfOk result (λ r. r ≡ hex_of word.now) }
-{
-    match hex::decode(alloc, word) {
-        Ok(bytes) => Ok(Some(Seq::from_vec(bytes))),
-        Err(FromHexError::OutOfMemory) => Err(OutOfMemory),
-        Err(_) => Ok(None),
-    }
-}
 
 /// The bytes that the word denotes.
 #[tactic(auto, unfolding(crate::specs::Requests::bytes_in))]
@@ -51,7 +16,7 @@ fn bytes_in(alloc: Global, word: &[u8]) -> Result<Option<Seq<u8>>, OutOfMemory>
     ensures { IfOk result (λ r. r ≡ bytes_in word.now) }
 {
     if is_hex(word) {
-        decoded(alloc, word)
+        hex_of(alloc, word)
     } else {
         Ok(None)
     }
@@ -102,29 +67,22 @@ fn workers_of(word: &[u8]) -> Option<u32>
     }
 }
 
-/// Whether the word is this one. Takes no memory.
-fn is_word(word: &[u8], name: &[u8]) -> bool
-    ensures { result ≡ bytes_eq word.now name.now }
-{
-    word == name
-}
-
 /// A request of one word. Takes no memory.
 #[tactic(auto, unfolding(crate::specs::Requests::request_of_one))]
 fn request_of_one(word: &[u8]) -> Option<Request>
     ensures request { result ≡ request_of_one word.now }
     ensures workers { IfSome result HasWorkers }
 {
-    if is_word(word, b"close".as_slice()) {
+    if is_word(word, b"close") {
         return Some(Request::Close);
     }
-    if is_word(word, b"end".as_slice()) {
+    if is_word(word, b"end") {
         return Some(Request::End);
     }
-    if is_word(word, b"turn".as_slice()) {
+    if is_word(word, b"turn") {
         return Some(Request::Turn);
     }
-    if is_word(word, b"state".as_slice()) {
+    if is_word(word, b"state") {
         return Some(Request::State);
     }
     None
@@ -136,25 +94,25 @@ fn request_of_two(alloc: Global, word: &[u8], text: &[u8]) -> Result<Option<Requ
     ensures request { IfOk result (λ r. r ≡ request_of_two word.now text.now) }
     ensures workers { IfOk result (λ r. IfSome r HasWorkers) }
 {
-    if is_word(word, b"vote".as_slice()) {
+    if is_word(word, b"vote") {
         return Ok(bytes_in(alloc, text)?.map(Request::Vote));
     }
-    if is_word(word, b"hold".as_slice()) {
+    if is_word(word, b"hold") {
         return Ok(bytes_in(alloc, text)?.map(Request::Hold));
     }
-    if is_word(word, b"run".as_slice()) {
+    if is_word(word, b"run") {
         return Ok(workers_of(text).map(|workers| Request::Run { workers }));
     }
-    if is_word(word, b"checkpoint".as_slice()) {
+    if is_word(word, b"checkpoint") {
         return Ok(number_of(text).map(|number| Request::Checkpoint { number }));
     }
-    if is_word(word, b"ack".as_slice()) {
+    if is_word(word, b"ack") {
         return Ok(digest_in(alloc, text)?.map(|tx| Request::Ack { tx }));
     }
-    if is_word(word, b"object".as_slice()) {
+    if is_word(word, b"object") {
         return Ok(digest_in(alloc, text)?.map(|id| Request::Object { id }));
     }
-    if is_word(word, b"effects".as_slice()) {
+    if is_word(word, b"effects") {
         return Ok(digest_in(alloc, text)?.map(|tx| Request::Effects { tx }));
     }
     Ok(None)
@@ -199,20 +157,13 @@ fn request_of_three(
     ensures request { IfOk result (λ r. r ≡ request_of_three word.now text.now more.now) }
     ensures workers { IfOk result (λ r. IfSome r HasWorkers) }
 {
-    if is_word(word, b"see".as_slice()) {
+    if is_word(word, b"see") {
         return see_of(alloc, text, more);
     }
-    if is_word(word, b"version".as_slice()) {
+    if is_word(word, b"version") {
         return version_of(alloc, text, more);
     }
     Ok(None)
-}
-
-/// The parts of the text between bytes of this value.
-fn parts_of(alloc: Global, byte: u8, text: &[u8]) -> Result<Vec<&[u8]>, OutOfMemory>
-    ensures { IfOk result (λ v. map (λ x. x.now) v.items ≡ slice_split (λ b. b == byte) text.now) }
-{
-    Ok(text.split(move |b| *b == byte).collect(alloc)?)
 }
 
 /// The request that a line is, read without its end; none if it is not a request.

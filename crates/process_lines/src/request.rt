@@ -4,7 +4,7 @@ use digest_core::Digest;
 use wire_bcs::Seq;
 
 /// A request. Bytes are those of the wire format.
-#[derive(Debug, Drop)]
+#[derive(Drop)]
 pub enum Request {
     /// `vote SIGNED_TX`
     Vote(Seq<u8>),
