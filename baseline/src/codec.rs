@@ -1,4 +1,4 @@
-//! BCS: every value has exactly one spelling, and bytes that are none are refused at the first fault.
+//! BCS: every value has exactly one encoding, and other bytes are refused at their first fault.
 
 /// What is wrong with an item; the numbers are those of the rules.
 #[derive(Clone, Copy, PartialEq, Eq, Debug)]
@@ -30,7 +30,7 @@ pub struct Fault {
 
 const MAX_LENGTH: u32 = 0x7fff_ffff;
 
-/// A value that can be spelled.
+/// A value that can be encoded.
 pub trait Spell {
     /// Appends the spelling.
     fn spell(&self, out: &mut Vec<u8>);

@@ -1,4 +1,4 @@
-//! The records that a member keeps, as spelled bytes, and stops that are armed at the next one.
+//! The records that a member keeps, as encoded bytes, and stops that are armed at the next one.
 
 /// What a stop does with the record at which it comes.
 #[derive(Clone, Copy, PartialEq, Eq, Debug)]

@@ -57,7 +57,7 @@ fn main() -> ExitCode {
     ExitCode::from(ended as u8)
 }
 
-/// A number from 1 to 10000, as it is spelled in a schedule.
+/// A number from 1 to 10000, as it is written in a schedule.
 fn made_number(word: &str) -> Option<u32> {
     let is_number = word.bytes().all(|byte| byte.is_ascii_digit()) && !word.starts_with('0');
     word.parse().ok().filter(|number| is_number && (1..=10_000).contains(number))

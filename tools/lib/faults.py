@@ -39,7 +39,7 @@ def bad_byte(line, lines):
     """What is wrong with a line that has a byte which no line may have, and what to change."""
     if line.text.endswith("\r") and all(32 <= ord(it) <= 126 for it in line.text[:-1]):
         count = sum(it.text.endswith("\r") for it in lines)
-        return f"the file has Windows line ends: a carriage return stands before the line feed, here and in {count} lines in all", "save it with line feeds only, or make such a copy: tr -d '\\r' < FILE > COPY"
+        return f"the file has Windows line ends: a carriage return stands before the line feed, in {count} lines in all", "save it with line feeds only, or make such a copy: tr -d '\\r' < FILE > COPY"
     at = next((place for place, byte in enumerate(line.text, 1) if not 32 <= ord(byte) <= 126), 0)
     what = {"\t": ", a tab: write a space for it", "\r": ", a carriage return"}.get(line.text[at - 1], "") if at else ""
     return "it holds a byte that is not a printable ASCII character", f"its character {at} is byte {ord(line.text[at - 1]):02x} in hexadecimal{what}" if at else ""

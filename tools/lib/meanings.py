@@ -62,7 +62,7 @@ ENDINGS = [
     (r"locked (\S+) by (\S+)", "member {M} voted for {1} in this epoch, which consumes {0} too", LOCKED),
     (r"down", "member {M} is down", "a `restart` line starts it again"),
     (r"full", "member {M} can keep no more records", ""),
-    (r"stopped", "member {M} stopped at its record, and nobody heard an answer", "a `restart` line starts it again"),
+    (r"stopped", "member {M} stopped at its record, and nobody got an answer", "a `restart` line starts it again"),
     (r"no vote of (\d+)", "no vote of member {0} for {T} was heard", "have it vote; if it stopped at its vote, `restart` it and ask again"),
     (r"short (\d+) of (\d+)", "stake {0} of {1} is not more than two thirds", "name more members that voted, or ask more for their votes"),
     (r"differ (\d+) (\d+)", "the votes of {0} and {1} name different origins", "leave one of them out"),

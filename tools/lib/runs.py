@@ -16,7 +16,7 @@ import schedules
 # The sections of a member that an epoch change empties.
 OF_EPOCH = ("votes", "locks", "held", "admitted", "waiting", "dropped", "stuck", "acks")
 # The note of a vote at whose record its member stopped.
-UNHEARD = "the vote for {} is in its records, but nobody heard it"
+UNHEARD = "the vote for {} is in its records, but nobody got it"
 # The commands that may use up an owned object that they are handed by value: the places of such arguments.
 USING_UP = {"merge": slice(1, None), "vec": slice(1, None), "coin_burn": slice(1, 2), "vault_deposit": slice(1, 2)}
 
