@@ -15,7 +15,6 @@ use outside_std::InSource;
 use std::alloc::Global;
 use std::sync::Wait;
 use std::thread::{Threads, join};
-use sui_validator::Error;
 use wallet::trade;
 
 /// Runs the nodes and the wallet side by side.
@@ -49,6 +48,6 @@ fn run<R: Threads + Wait + Print + Sync>(rt: &R, alloc: Global, text: &[u8]) -> 
 
 fn main(rt: HostRuntime) -> Result<()> {
     let mut source = InSource::new(rt.reader());
-    let text = read_text(rt.alloc(), 65_536, &mut source).map_err(Error::from)?;
+    let text = read_text(rt.alloc(), 65_536, &mut source)?;
     run(&rt, rt.alloc(), text.as_slice())
 }

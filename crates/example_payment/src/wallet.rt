@@ -5,7 +5,6 @@ use anyhow::Result;
 use crossbeam_channel::{Receiver, Sender};
 use std::alloc::Global;
 use std::sync::Wait;
-use sui_validator::Error;
 use sui_validator::node::Committee;
 use sui_validator::types::{Certificate, Entry, Sealed, Seq, decode_signed, encode};
 use sui_validator::wallet::{certify, finality};
@@ -16,7 +15,7 @@ pub type Nodes = [(Sender<Seq<u8>>, Receiver<Said>); 2];
 /// Hands bytes to both nodes.
 fn send<R: Wait>(rt: &R, alloc: Global, nodes: &Nodes, bytes: &[u8]) -> Result<()> {
     for (asks, _) in nodes {
-        asks.send(rt, Seq::from_slice(alloc, bytes).map_err(Error::from)?)?;
+        asks.send(rt, Seq::from_slice(alloc, bytes)?)?;
     }
     Ok(())
 }
@@ -27,11 +26,24 @@ fn ask<R: Wait + Print>(rt: &R, alloc: Global, nodes: &Nodes, bytes: &[u8]) -> R
     let mut statements = Seq::new(alloc);
     for (_, said) in nodes {
         match said.recv(rt)? {
-            Ok(sealed) => statements.push(sealed).map_err(Error::from)?,
+            Ok(sealed) => statements.push(sealed)?,
             Err(refusal) => println!(rt; "no: {refusal}")?,
         }
     }
     Ok(statements)
+}
+
+/// Makes the certificate of a payment of these votes.
+fn certified(
+    alloc: Global,
+    committee: &Committee,
+    payment: &[u8],
+    votes: &Seq<Sealed>,
+) -> Result<Certificate> {
+    let signed = decode_signed(alloc, payment)?;
+    let cert = certify(alloc, &signed.tx, votes, committee);
+    drop(signed);
+    Ok(cert?)
 }
 
 /// Collects both votes for a payment: its certificate.
@@ -42,31 +54,56 @@ fn order<R: Wait + Print>(
     committee: &Committee,
     payment: &[u8],
 ) -> Result<Certificate> {
-    let signed = decode_signed(alloc, payment).map_err(Error::from)?;
     let votes = ask(rt, alloc, nodes, payment)?;
-    Ok(certify(alloc, &signed.tx, &votes, committee)?)
+    let cert = certified(alloc, committee, payment, &votes);
+    drop(votes);
+    cert
 }
 
-/// Has both nodes execute a certificate, and says by how many it is final.
+/// Has both nodes execute the certificate that the bytes are, and says by how many it is final.
 fn pay<R: Wait + Print>(
     rt: &R,
     alloc: Global,
     nodes: &Nodes,
     committee: &Committee,
-    cert: &Certificate,
+    cert: &[u8],
 ) -> Result<()> {
-    let acks = ask(rt, alloc, nodes, encode(alloc, cert)?.as_slice())?;
-    let paid = finality(alloc, &acks, committee)?;
-    println!(rt; "final by {} nodes", paid.members.len())?;
+    let acks = ask(rt, alloc, nodes, cert)?;
+    let paid = finality(alloc, &acks, committee);
+    drop(acks);
+    let nodes = paid?.members.len();
+    println!(rt; "final by {nodes} nodes")?;
     Ok(())
 }
 
-/// Orders the certificate and then both Ends in the sequence.
-fn end<R: Wait + Print>(rt: &R, alloc: Global, nodes: &Nodes, cert: Certificate) -> Result<()> {
-    let entry = encode(alloc, &Entry::Cert(cert))?;
-    for end in ask(rt, alloc, nodes, entry.as_slice())?.into_vec() {
-        let end = encode(alloc, &Entry::End(end))?;
-        send(rt, alloc, nodes, end.as_slice())?;
+/// Asks both nodes for a second spend, and says how many vote for it.
+fn spend_again<R: Wait + Print>(rt: &R, alloc: Global, nodes: &Nodes, second: &[u8]) -> Result<()> {
+    let votes = ask(rt, alloc, nodes, second)?;
+    let count = votes.len();
+    drop(votes);
+    println!(rt; "{count} votes for the second spend")?;
+    Ok(())
+}
+
+/// The bytes of an entry of the sequence.
+fn entry_of(alloc: Global, entry: Entry) -> Result<Seq<u8>> {
+    let bytes = encode(alloc, &entry);
+    drop(entry);
+    Ok(bytes?)
+}
+
+/// The bytes of a certificate, and those of it as an entry of the sequence.
+fn bytes_of(alloc: Global, cert: Certificate) -> Result<(Seq<u8>, Seq<u8>)> {
+    let bytes = encode(alloc, &cert);
+    let entry = entry_of(alloc, Entry::Cert(cert));
+    Ok((bytes?, entry?))
+}
+
+/// Orders the certificate's entry and then both Ends in the sequence.
+fn end<R: Wait + Print>(rt: &R, alloc: Global, nodes: &Nodes, entry: &[u8]) -> Result<()> {
+    for end in ask(rt, alloc, nodes, entry)?.into_vec() {
+        let entry = entry_of(alloc, Entry::End(end))?;
+        send(rt, alloc, nodes, entry.as_slice())?;
     }
     Ok(())
 }
@@ -79,10 +116,10 @@ pub(crate) fn trade<R: Wait + Print>(
     text: &[u8],
 ) -> Result<()> {
     let (payment, second) = text.split_at(text.len() / 2);
-    let committee = Committee::new(&[1, 1]).map_err(Error::from)?;
+    let committee = Committee::new(&[1, 1])?;
     let cert = order(rt, alloc, nodes, &committee, payment)?;
-    pay(rt, alloc, nodes, &committee, &cert)?;
-    let others = ask(rt, alloc, nodes, second)?;
-    println!(rt; "{} votes for the second spend", others.len())?;
-    end(rt, alloc, nodes, cert)
+    let (bytes, entry) = bytes_of(alloc, cert)?;
+    pay(rt, alloc, nodes, &committee, bytes.as_slice())?;
+    spend_again(rt, alloc, nodes, second)?;
+    end(rt, alloc, nodes, entry.as_slice())
 }
