@@ -137,12 +137,7 @@ impl State {
             Err(Unread::OutOfMemory) => return Err(HoldRefusal::OutOfMemory),
         };
         let digest = encoded_digest(&cert.tx, tx_bytes);
-        match self.hold_on(committee, sealer, &cert, digest) {
-            Ok(holding) => Ok((cert, holding)),
-            Err(refusal) => {
-                drop(cert);
-                Err(refusal)
-            }
-        }
+        let holding = self.hold_on(committee, sealer, &cert, digest)?;
+        Ok((cert, holding))
     }
 }
