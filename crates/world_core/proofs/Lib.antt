@@ -26,5 +26,7 @@ pub mod Saying
 pub mod Acking
 pub mod OrderedEnds
 pub mod Asked
+pub mod Serving
+pub mod Dispatching
 pub mod Cuts
 mod First
