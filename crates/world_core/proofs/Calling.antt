@@ -1,23 +1,21 @@
 -- A call on one member among the others.
-use Rattle.std.proofs.Common.{◌≡◌, ℕ, ◌<◌, ◌≤◌, List, length, get_or, set, Option, None, Some, sym, ap, refl, ◌∙◌, subst}
+use Rattle.std.proofs.Common.{◌≡◌, ℕ, ◌<◌, List, length, get_or, set, Option, Some, sym, ap, refl, ◌∙◌, subst}
 use Rattle.std.specs.Prelude.{Bool, Result, Ok, Err, IfOk, IsErrOf, is_some, slice_get, true}
-use Rattle.std.proofs.lemmas.Option.{slice_get_past, slice_get_read}
+use Rattle.std.proofs.lemmas.Option.{slice_get_read}
 use Rattle.outside.specs.Lists.{Journals}
 use Rattle.protocol_spec.specs.Chain.Certificates.{Rules}
 use Rattle.protocol_spec.specs.Member.Calls.{Call}
 use Rattle.protocol_spec.specs.Member.Member.{Member}
 use Rattle.world_spec.specs.Terms.{Terms}
-use Rattle.world_spec.specs.Posts.{AddsLeft, Post, posts_with, reached_in, reached_post, record_left}
+use Rattle.world_spec.specs.Posts.{Post, posts_with, reached_in, reached_post, record_left}
 use Rattle.world_spec.specs.SceneSteps.{standing_at}
 use Rattle.world_core.specs.declared.reply.Reply.{Reply}
-use Rattle.world_core.specs.declared.reply.Reply.TheVariants as replies
 use Rattle.world_core.specs.declared.reply.SeatFault.{SeatFault}
 use Rattle.world_core.specs.declared.reply.SeatFault.TheVariants as faults
-use Rattle.world_core.specs.Crews.{Crew, IsAble, IsPlaced, PostAfter, PostsAfter, fallen}
+use Rattle.world_core.specs.Crews.{IsAble, IsPlaced, PostAfter, PostsAfter, fallen}
 use Rattle.world_core.specs.Replies.{Leaves, Replies}
 use Rattle.world_core.specs.Served.{Served}
 use Rattle.protocol_spec.proofs.ListLemmas.{set_length}
-use Rattle.validator_core.proofs.Settling.{keeps_same}
 use Rattle.world_core.proofs.Placing.{AreWhole, changed_is, post_honest, post_placed, whole_with}
 
 -- ---- after the call
@@ -74,18 +72,3 @@ served_in Says terms posts n m r call old p before now result count low is answe
   owed = owed_in posts n m r call old result count low is owed;
   able = able_in posts n m old result count low is able;
 }
-
--- a member that is not there
-pub served_none : {A : Type 0} (Says : Member → A → Type 0) (crew : Crew) (m : ℕ) (r : Rules) (call : Call) (told : Option Journals) → length crew.posts ≤ m
-    → Served Says r call m crew crew told told (let y : Result (Reply A) SeatFault = Ok replies.Down in y)
-served_none {A} Says crew m r call told past =
-    let none : slice_get crew.posts m ≡ None = slice_get_past crew.posts m past in
-    record {
-      answer = ap (reached_post r call) none;
-      posts = sym (ap (posts_with r call crew.posts m) none);
-      terms = refl;
-      many = refl;
-      kept = subst (λ (o : Option Post). AddsLeft told told m (record_left (reached_post r call o))) (sym none) (keeps_same told);
-      owed = λ f. absurd (let e : Ok replies.Down ≡ (let y : Result (Reply A) SeatFault = Err faults.KeepFault in y) = f in cc);
-      able = λ f. absurd (let e : Ok replies.Down ≡ (let y : Result (Reply A) SeatFault = Err faults.OutOfMemory in y) = f in cc);
-    }

@@ -1,18 +1,16 @@
 -- What a member answers to the close of its epoch, and what becomes of the call.
-use Rattle.std.proofs.Common.{◌≡◌, ◌∙◌, ap, sym, refl, ℕ, Bool, List, ◌++◌, map, append-nil, Result, Ok, Err}
+use Rattle.std.proofs.Common.{◌≡◌, ◌∙◌, ap, sym, ℕ, Bool, List, ◌++◌, map, append-nil, Result, Ok, Err}
 use Rattle.protocol_spec.specs.declared.refusals.CloseRefusal.{CloseRefusal}
 use Rattle.protocol_spec.specs.declared.refusals.CloseRefusal.TheVariants as no_close
 use Rattle.protocol_spec.specs.Chain.Certificates.{Rules}
 use Rattle.protocol_spec.specs.Member.Calls.{close_answer, closes}
-use Rattle.report_text.specs.declared.lines.CloseText.{CloseText}
-use Rattle.report_text.specs.declared.lines.CloseText.TheVariants as close_text
 use Rattle.validator_core.specs.Calls.{Closes, close_ended}
 use Rattle.validator_core.specs.Seats.{answered}
 use Rattle.world_spec.specs.Setting.{Trust}
 use Rattle.world_spec.specs.World.{Reached, Said, answers, finds_down, said_by, stated, stops}
 use Rattle.world_spec.specs.Report.{close_answered, close_reached}
 use Rattle.world_spec.proofs.LineWorlds.{close_same}
-use Rattle.world_spec.specs.Known.{Known, world_with}
+use Rattle.world_spec.specs.Known.{world_with}
 use Rattle.world_spec.specs.Posts.{reached_in, stated_in}
 use Rattle.world_spec.specs.Scene.{Scene, bare_setting, bare_world, rules_in}
 use Rattle.world_core.specs.Replies.{Replies, SaysClose}

@@ -1,5 +1,5 @@
 -- A line, by its own method, as a step.
-use Rattle.std.proofs.Common.{◌≡◌, ◌≤◌, ◌∙◌, ap, sym, refl, subst, arith, ℕ, Bool, true, false, List, Option, Some, None, Result, Ok, Err}
+use Rattle.std.proofs.Common.{◌≡◌, ◌∙◌, sym, refl, subst, arith, ℕ, Bool, true, false, List, Option, None, Result, Ok, Err}
 use Rattle.std.specs.Prelude.{IfOk, IsErrOf, OnErr, OnOk, slice_get}
 use Rattle.outside.specs.Lists.{Journals, KeepsJournals}
 use Rattle.report_text.specs.declared.lines.Line.{Line}

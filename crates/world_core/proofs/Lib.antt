@@ -10,7 +10,6 @@ pub mod Texts
 pub mod Lines
 pub mod Voting
 pub mod Restarts
-pub mod Steps
 pub mod Stays
 pub mod Stated
 pub mod Seeing

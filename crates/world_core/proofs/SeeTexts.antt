@@ -1,21 +1,17 @@
 -- What a member makes of an entry, and what becomes of the call.
-use Rattle.std.proofs.Common.{◌≡◌, ◌∙◌, ap, sym, refl, ℕ, Bool, false, List, [], ◌∷◌, ◌++◌, map, Result, Ok, Err}
+use Rattle.std.proofs.Common.{◌≡◌, ◌∙◌, ap, sym, ℕ, List, map, Result, Ok, Err}
 use Rattle.protocol_spec.specs.declared.answers.Seen.{Seen}
 use Rattle.protocol_spec.specs.declared.refusals.SeeRefusal.{SeeRefusal}
 use Rattle.protocol_spec.specs.declared.refusals.SeeRefusal.TheVariants as no_see
 use Rattle.protocol_spec.specs.Chain.Certificates.{Rules}
 use Rattle.protocol_spec.specs.Member.Calls.{see_answer, sees}
-use Rattle.report_text.specs.declared.lines.Line.{Line}
-use Rattle.report_text.specs.declared.lines.Line.TheVariants as line
-use Rattle.report_text.specs.declared.lines.SeeText.TheVariants as see_text
-use Rattle.report_text.specs.declared.lines.EntryText.TheVariants as entry_text
 use Rattle.validator_core.specs.Calls.{Sees, see_ended}
 use Rattle.validator_core.specs.Seats.{answered}
 use Rattle.world_spec.specs.Setting.{Trust}
-use Rattle.world_spec.specs.World.{Reached, Said, answers, built_statements, finds_down, said_by, stated, stops}
-use Rattle.world_spec.specs.Report.{Lines, entry_lines, entry_reached}
+use Rattle.world_spec.specs.World.{Reached, built_statements, said_by, stated}
+use Rattle.world_spec.specs.Report.{entry_lines, entry_reached}
 use Rattle.world_spec.proofs.LineWorlds.{see_same}
-use Rattle.world_spec.specs.Known.{Known, setting_staked, world_with}
+use Rattle.world_spec.specs.Known.{setting_staked, world_with}
 use Rattle.world_spec.specs.Posts.{stated_in}
 use Rattle.world_spec.specs.Scene.{Scene, bare_setting, bare_world, rules_in}
 use Rattle.world_core.specs.Replies.{Replies, SaysSee}

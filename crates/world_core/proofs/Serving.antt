@@ -1,5 +1,5 @@
 -- What a call on a member leaves, as what its line leaves.
-use Rattle.std.proofs.Common.{◌≡◌, ◌∙◌, ap, sym, refl, subst, arith, ℕ, Bool, true, false, List, [], ◌++◌, map, length, Option, Some, None, Result, Ok, Err, inl}
+use Rattle.std.proofs.Common.{◌≡◌, ◌∙◌, ap, sym, refl, subst, arith, ℕ, true, false, List, [], ◌++◌, map, length, Option, Some, None, Result, Ok, Err, inl}
 use Rattle.std.specs.Prelude.{IfOk, IsErrOf, OnErr, OnOk, option_map}
 use Rattle.digest_core.specs.declared.Digest.{Digest}
 use Rattle.quorum_core.specs.declared.signer.Signer.{Signer}

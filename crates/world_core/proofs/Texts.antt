@@ -1,6 +1,6 @@
 -- What is said of calls, by what is known, is what the scene's lines say.
-use Rattle.std.proofs.Common.{◌≡◌, ◌∙◌, ap, sym, refl, subst, ℕ, Bool, true, List, [], ◌∷◌, ◌++◌, map, append-nil, Option, Some, None, Result, Ok, Err}
-use Rattle.std.specs.Prelude.{IfOk, option_map}
+use Rattle.std.proofs.Common.{◌≡◌, ◌∙◌, ap, sym, refl, ℕ, Bool, true, List, [], ◌∷◌, ◌++◌, map, append-nil, Option, Some, None, Result, Ok, Err}
+use Rattle.std.specs.Prelude.{option_map}
 use Rattle.digest_core.specs.declared.Digest.{Digest}
 use Rattle.quorum_core.specs.declared.signer.Signer.{Signer}
 use Rattle.chain_messages.specs.Messages as messages
@@ -15,16 +15,11 @@ use Rattle.protocol_spec.specs.declared.refusals.RunRefusal.TheVariants as no_ru
 use Rattle.protocol_spec.specs.declared.refusals.VoteRefusal.{VoteRefusal}
 use Rattle.protocol_spec.specs.declared.refusals.VoteRefusal.TheVariants as no_vote
 use Rattle.protocol_spec.specs.Member.Member.{Member, live_objects}
-use Rattle.protocol_spec.specs.Member.Calls.{Call, Voted, hold_answer, holds, run_answer, runs, vote_answer, votes}
+use Rattle.protocol_spec.specs.Member.Calls.{Voted, hold_answer, holds, run_answer, runs, vote_answer, votes}
 use Rattle.protocol_spec.specs.Chain.Certificates.{Rules}
 use Rattle.report_text.specs.declared.lines.Line.{Line}
 use Rattle.report_text.specs.declared.lines.Line.TheVariants as line
-use Rattle.report_text.specs.declared.lines.RunText.TheVariants as run_text
-use Rattle.report_text.specs.declared.lines.SendText.{SendText}
-use Rattle.report_text.specs.declared.lines.SendText.TheVariants as send_text
 use Rattle.report_text.specs.declared.lines.ShowText.TheVariants as show_text
-use Rattle.report_text.specs.declared.lines.VoteText.{VoteText}
-use Rattle.report_text.specs.declared.lines.VoteText.TheVariants as vote_text
 use Rattle.world_spec.specs.Setting.{Trust}
 use Rattle.world_spec.specs.World.{Reached, Said, answers, finds_down, ran_statements, said_by, stated, stops, voted_statement, sealed_by, said_under}
 use Rattle.world_spec.specs.Report.{hold_answered, hold_reached, run_answered, run_reached, shown, vote_answered, vote_reached}
@@ -36,8 +31,7 @@ use Rattle.world_spec.specs.Seats.{Seated}
 use Rattle.validator_core.specs.Seats.{answered}
 use Rattle.world_spec.specs.Posts.{reached_in, stated_in}
 use Rattle.world_spec.specs.Scene.{Scene, bare_setting, bare_world, rules_in}
-use Rattle.world_spec.specs.SceneSteps.{hold_text_in, lines_in, show_in, vote_text_in}
-use Rattle.schedule_text.specs.declared.words.Event.TheVariants as event
+use Rattle.world_spec.specs.SceneSteps.{hold_text_in, show_in, vote_text_in}
 use Rattle.world_core.specs.Crews.{shown_of}
 use Rattle.world_core.specs.Replies.{Replies, SaysHold, SaysRun, SaysVote}
 use Rattle.world_core.specs.declared.reply.Reply.{Reply}

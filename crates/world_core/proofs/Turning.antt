@@ -1,5 +1,5 @@
 -- What a member answers to a turn, and what becomes of the call.
-use Rattle.std.proofs.Common.{◌≡◌, ◌∙◌, ap, sym, refl, ℕ, Bool, List, [], ◌∷◌, ◌++◌, map, append-nil, Option, Some, None, Result, Ok, Err}
+use Rattle.std.proofs.Common.{◌≡◌, ◌∙◌, ap, sym, refl, ℕ, Bool, List, ◌++◌, map, append-nil, Option, Some, None, Result, Ok, Err}
 use Rattle.std.specs.Prelude.{slice_get}
 use Rattle.digest_core.specs.declared.Digest.{Digest}
 use Rattle.protocol_spec.specs.declared.refusals.TurnRefusal.{TurnRefusal}
@@ -8,9 +8,6 @@ use Rattle.journal_core.specs.declared.records.Record.{Record}
 use Rattle.protocol_spec.specs.Chain.Certificates.{Rules}
 use Rattle.protocol_spec.specs.Member.Member.{Member}
 use Rattle.protocol_spec.specs.Member.Calls.{due, turn_answer, turns}
-use Rattle.report_text.specs.declared.lines.Line.{Line}
-use Rattle.report_text.specs.declared.lines.Line.TheVariants as line
-use Rattle.report_text.specs.declared.lines.TurnText.TheVariants as turn_text
 use Rattle.validator_core.specs.Calls.{Turns, turn_ended}
 use Rattle.validator_core.specs.Seats.{answered}
 use Rattle.world_lines.specs.Answers.{member_in}
@@ -18,7 +15,7 @@ use Rattle.world_spec.specs.Setting.{Trust}
 use Rattle.world_spec.specs.World.{Reached, Said, World, answers, finds_down, reached_up, said_by, stated, stops}
 use Rattle.world_spec.specs.Report.{turn_answered, turn_reached}
 use Rattle.world_spec.proofs.LineWorlds.{turn_same}
-use Rattle.world_spec.specs.Known.{Known, world_with}
+use Rattle.world_spec.specs.Known.{world_with}
 use Rattle.world_spec.specs.Seats.{Seated}
 use Rattle.world_spec.specs.Posts.{Post, reached_in, reached_post, reached_standing, stated_in}
 use Rattle.world_spec.specs.Scene.{Scene, bare_setting, bare_world, rules_in}

@@ -4,7 +4,6 @@ use Rattle.chain_messages.specs.declared.messages.Entry.{Entry}
 use Rattle.chain_messages.specs.declared.messages.Statement.{Statement}
 use Rattle.journal_core.specs.declared.records.Record.{Record}
 use Rattle.outside.specs.Lists.{Journals}
-use Rattle.protocol_spec.specs.Chain.Certificates.{Rules}
 use Rattle.protocol_spec.specs.Member.Member.{Member}
 use Rattle.protocol_spec.specs.Member.Calls.{Call}
 use Rattle.protocol_spec.specs.declared.answers.Seen.{Seen}

@@ -1,6 +1,5 @@
 -- What a call on a member leaves, and what a line of the schedule does. Source: this profile.
-use Rattle.std.specs.Prelude.{◌≡◌, ◌≤◌, ℕ, Bool, true, false, List, Option, Result, Ok, Err, IfOk, IsErrOf, OnErr, OnOk, is_some, length, slice_get}
-use Rattle.journal_core.specs.declared.records.Record.{Record}
+use Rattle.std.specs.Prelude.{◌≡◌, ◌≤◌, ℕ, true, false, List, Option, Result, Ok, Err, IfOk, IsErrOf, OnErr, OnOk, is_some, length, slice_get}
 use Rattle.outside.specs.Causes.{Rose}
 use Rattle.outside.specs.Lists.{Journals}
 use Rattle.protocol_spec.specs.Chain.Certificates.{Rules}

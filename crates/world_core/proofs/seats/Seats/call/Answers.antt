@@ -2,7 +2,7 @@ use Rattle.std.proofs.Common.{subst, ◌∙◌, set}
 use Rattle.world_spec.specs.Terms.{rules_for}
 use Rattle.world_core.specs.Crews.{Crew}
 use Rattle.world_core.specs.Served.{Served}
-use Rattle.world_core.proofs.Calling.{served_in, served_none, whole_after}
+use Rattle.world_core.proofs.Calling.{served_in, whole_after}
 use Rattle.world_core.proofs.Placing.{placed_in}
 use Rattle.world_core.proofs.seats.Seats.call.Goals as goal
 

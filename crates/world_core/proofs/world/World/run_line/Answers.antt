@@ -18,7 +18,7 @@ use Rattle.world_core.proofs.world.World.run_line.Goals as goal
 
 pub returns-in-Vote-clause-step : goal.returns-in-Vote-clause-step
 returns-in-Vote-clause-step g c =
-    call_step (trust_by (g.S.MakesSeals.made c.args.sealer.now) (g.S.Checker.accepts c.args.sealer.now)) c.args.self.now c.vote.new.self (events.Vote c.in-Vote.member c.in-Vote.tx.now) (g.D.Keeper.lists c.args.keeper.now) (g.D.Keeper.lists c.vote.new.keeper) refl c.args.event.now c.vote.result c.call_outcome.result c.in-Vote.is c.call_outcome.ensures c.vote.ensures.line
+    call_step (trust_by (g.S.MakesSeals.made c.args.sealer.now) (g.S.Checker.accepts c.args.sealer.now)) c.args.self.now c.vote.new.self (events.Vote c.in-Vote.member c.in-Vote.tx) (g.D.Keeper.lists c.args.keeper.now) (g.D.Keeper.lists c.vote.new.keeper) refl c.args.event.now c.vote.result c.call_outcome.result c.in-Vote.is c.call_outcome.ensures c.vote.ensures.line
 
 pub returns-in-Vote-clause-keeper : goal.returns-in-Vote-clause-keeper
 returns-in-Vote-clause-keeper g c =
@@ -26,7 +26,7 @@ returns-in-Vote-clause-keeper g c =
 
 pub returns-in-Send-clause-step : goal.returns-in-Send-clause-step
 returns-in-Send-clause-step g c =
-    call_step (trust_by (g.S.MakesSeals.made c.args.sealer.now) (g.S.Checker.accepts c.args.sealer.now)) c.args.self.now c.send.new.self (events.Send c.in-Send.member c.in-Send.tx.now) (g.D.Keeper.lists c.args.keeper.now) (g.D.Keeper.lists c.send.new.keeper) refl c.args.event.now c.send.result c.call_outcome-in-Send.result c.in-Send.is c.call_outcome-in-Send.ensures c.send.ensures.line
+    call_step (trust_by (g.S.MakesSeals.made c.args.sealer.now) (g.S.Checker.accepts c.args.sealer.now)) c.args.self.now c.send.new.self (events.Send c.in-Send.member c.in-Send.tx) (g.D.Keeper.lists c.args.keeper.now) (g.D.Keeper.lists c.send.new.keeper) refl c.args.event.now c.send.result c.call_outcome-in-Send.result c.in-Send.is c.call_outcome-in-Send.ensures c.send.ensures.line
 
 pub returns-in-Send-clause-keeper : goal.returns-in-Send-clause-keeper
 returns-in-Send-clause-keeper g c =
@@ -58,7 +58,7 @@ returns-in-Turn-clause-keeper g c =
 
 pub returns-in-RawVote-clause-step : goal.returns-in-RawVote-clause-step
 returns-in-RawVote-clause-step g c =
-    call_step (trust_by (g.S.MakesSeals.made c.args.sealer.now) (g.S.Checker.accepts c.args.sealer.now)) c.args.self.now c.raw_vote.new.self (events.RawVote c.in-RawVote.member c.in-RawVote.bytes.now) (g.D.Keeper.lists c.args.keeper.now) (g.D.Keeper.lists c.raw_vote.new.keeper) refl c.args.event.now c.raw_vote.result c.call_outcome-in-RawVote.result c.in-RawVote.is c.call_outcome-in-RawVote.ensures c.raw_vote.ensures.line
+    call_step (trust_by (g.S.MakesSeals.made c.args.sealer.now) (g.S.Checker.accepts c.args.sealer.now)) c.args.self.now c.raw_vote.new.self (events.RawVote c.in-RawVote.member c.in-RawVote.bytes) (g.D.Keeper.lists c.args.keeper.now) (g.D.Keeper.lists c.raw_vote.new.keeper) refl c.args.event.now c.raw_vote.result c.call_outcome-in-RawVote.result c.in-RawVote.is c.call_outcome-in-RawVote.ensures c.raw_vote.ensures.line
 
 pub returns-in-RawVote-clause-keeper : goal.returns-in-RawVote-clause-keeper
 returns-in-RawVote-clause-keeper g c =
@@ -66,7 +66,7 @@ returns-in-RawVote-clause-keeper g c =
 
 pub returns-in-RawHold-clause-step : goal.returns-in-RawHold-clause-step
 returns-in-RawHold-clause-step g c =
-    call_step (trust_by (g.S.MakesSeals.made c.args.sealer.now) (g.S.Checker.accepts c.args.sealer.now)) c.args.self.now c.raw_hold.new.self (events.RawHold c.in-RawHold.member c.in-RawHold.bytes.now) (g.D.Keeper.lists c.args.keeper.now) (g.D.Keeper.lists c.raw_hold.new.keeper) refl c.args.event.now c.raw_hold.result c.call_outcome-in-RawHold.result c.in-RawHold.is c.call_outcome-in-RawHold.ensures c.raw_hold.ensures.line
+    call_step (trust_by (g.S.MakesSeals.made c.args.sealer.now) (g.S.Checker.accepts c.args.sealer.now)) c.args.self.now c.raw_hold.new.self (events.RawHold c.in-RawHold.member c.in-RawHold.bytes) (g.D.Keeper.lists c.args.keeper.now) (g.D.Keeper.lists c.raw_hold.new.keeper) refl c.args.event.now c.raw_hold.result c.call_outcome-in-RawHold.result c.in-RawHold.is c.call_outcome-in-RawHold.ensures c.raw_hold.ensures.line
 
 pub returns-in-RawHold-clause-keeper : goal.returns-in-RawHold-clause-keeper
 returns-in-RawHold-clause-keeper g c =
@@ -91,7 +91,7 @@ returns-in-Restart-clause-keeper g c =
 pub returns-in-Tx-clause-step : goal.returns-in-Tx-clause-step
 unfolding steps_to lines_in
 returns-in-Tx-clause-step g c =
-    quiet_step (trust_by (g.S.MakesSeals.made c.args.sealer.now) (g.S.Checker.accepts c.args.sealer.now)) c.args.self.now c.make_tx.new.self (events.Tx c.as_slice.result.now c.as_slice-2.result.now c.in-Tx.spoiled c.in-Tx.epoch c.in-Tx.gas.now c.in-Tx.budget c.as_slice-3.result.now c.as_slice-4.result.now) (g.D.Keeper.lists c.args.keeper.now) refl refl c.args.event.now c.make_tx.result c.quiet_outcome.result (let same : c.args.event.now ≡ (events.Tx c.as_slice.result.now c.as_slice-2.result.now c.in-Tx.spoiled c.in-Tx.epoch c.in-Tx.gas.now c.in-Tx.budget c.as_slice-3.result.now c.as_slice-4.result.now) = cc (c.in-Tx.is, c.as_slice.ensures.value, c.as_slice-2.ensures.value, c.as_slice-3.ensures.value, c.as_slice-4.ensures.value) in same) c.quiet_outcome.ensures c.make_tx.ensures.world c.make_tx.ensures.lines c.make_tx.ensures.still (unsaid_on (trust_by (g.S.MakesSeals.made c.args.sealer.now) (g.S.Checker.accepts c.args.sealer.now)) c.args.self.now (events.Tx c.as_slice.result.now c.as_slice-2.result.now c.in-Tx.spoiled c.in-Tx.epoch c.in-Tx.gas.now c.in-Tx.budget c.as_slice-3.result.now c.as_slice-4.result.now) c.make_tx.new.self.said c.make_tx.result c.make_tx.ensures.unsaid)
+    quiet_step (trust_by (g.S.MakesSeals.made c.args.sealer.now) (g.S.Checker.accepts c.args.sealer.now)) c.args.self.now c.make_tx.new.self (events.Tx c.as_slice.result.now c.as_slice-in-Tx.result.now c.in-Tx.spoiled c.in-Tx.epoch c.in-Tx.gas c.in-Tx.budget c.as_slice-in-Tx-2.result.now c.as_slice-in-Tx-3.result.now) (g.D.Keeper.lists c.args.keeper.now) refl refl c.args.event.now c.make_tx.result c.quiet_outcome.result (let same : c.args.event.now ≡ (events.Tx c.as_slice.result.now c.as_slice-in-Tx.result.now c.in-Tx.spoiled c.in-Tx.epoch c.in-Tx.gas c.in-Tx.budget c.as_slice-in-Tx-2.result.now c.as_slice-in-Tx-3.result.now) = cc (c.in-Tx.is, c.as_slice.ensures.value, c.as_slice-in-Tx.ensures.value, c.as_slice-in-Tx-2.ensures.value, c.as_slice-in-Tx-3.ensures.value) in same) c.quiet_outcome.ensures c.make_tx.ensures.world c.make_tx.ensures.lines c.make_tx.ensures.still (unsaid_on (trust_by (g.S.MakesSeals.made c.args.sealer.now) (g.S.Checker.accepts c.args.sealer.now)) c.args.self.now (events.Tx c.as_slice.result.now c.as_slice-in-Tx.result.now c.in-Tx.spoiled c.in-Tx.epoch c.in-Tx.gas c.in-Tx.budget c.as_slice-in-Tx-2.result.now c.as_slice-in-Tx-3.result.now) c.make_tx.new.self.said c.make_tx.result c.make_tx.ensures.unsaid)
 
 pub returns-in-Tx-clause-keeper : goal.returns-in-Tx-clause-keeper
 returns-in-Tx-clause-keeper g c =
