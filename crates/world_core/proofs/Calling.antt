@@ -1,19 +1,21 @@
 -- A call on one member among the others.
-use Rattle.std.proofs.Common.{◌≡◌, ℕ, ◌<◌, List, length, get_or, set, Option, Some, sym, ap, ◌∙◌, subst}
-use Rattle.std.specs.Prelude.{Bool, Result, Ok, Err, IfOk, IsErrOf, OnOk, OnErr, is_some, slice_get, true}
+use Rattle.std.proofs.Common.{◌≡◌, ℕ, ◌<◌, List, length, get_or, set, Option, Some, sym, ap, refl, ◌∙◌, subst}
+use Rattle.std.specs.Prelude.{Bool, Result, Ok, Err, IfOk, IsErrOf, is_some, slice_get, true}
 use Rattle.std.proofs.lemmas.Option.{slice_get_read}
 use Rattle.outside.specs.Lists.{Journals}
 use Rattle.protocol_spec.specs.Chain.Certificates.{Rules}
 use Rattle.protocol_spec.specs.Member.Calls.{Call}
 use Rattle.protocol_spec.specs.Member.Member.{Member}
 use Rattle.world_spec.specs.Terms.{Terms}
-use Rattle.world_spec.specs.Posts.{Post, posts_behind, posts_with, reached_in, reached_post, record_left}
+use Rattle.world_spec.specs.Posts.{Post, posts_with, reached_in, reached_post, record_left}
 use Rattle.world_spec.specs.SceneSteps.{standing_at}
 use Rattle.world_core.specs.declared.reply.Reply.{Reply}
 use Rattle.world_core.specs.declared.reply.SeatFault.{SeatFault}
 use Rattle.world_core.specs.declared.reply.SeatFault.TheVariants as faults
-use Rattle.world_core.specs.Crews.{IsAble, IsPlaced, PostAfter, PostsAfter, fallen, fallen_at}
+use Rattle.world_core.specs.Crews.{IsAble, IsPlaced, PostAfter, PostsAfter, fallen}
 use Rattle.world_core.specs.Replies.{Leaves, Replies}
+use Rattle.world_core.specs.Served.{Served}
+use Rattle.protocol_spec.proofs.ListLemmas.{set_length}
 use Rattle.world_core.proofs.Placing.{AreWhole, changed_is, post_honest, post_placed, whole_with}
 
 -- ---- after the call
@@ -55,12 +57,18 @@ pub able_in : {A : Type 0} (posts : List Post) (n m : ℕ) (old : Post) (result 
     → (IsErrOf result faults.OutOfMemory → IsAble old.standing) → IsErrOf result faults.OutOfMemory → IsAble (standing_at (slice_get posts m))
 able_in posts n m old result count low is h fault = subst (λ (o : Option Post). IsAble (standing_at o)) (sym (slice_get_read posts n m old count low is)) (h fault)
 
--- ---- by how the call ended
+-- ---- all of it
 
-pub on_ok : {A E : Type 0} (r : Rules) (call : Call) (m : ℕ) (posts new : List Post) (result : Result A E) → PostsAfter r call m posts new result → OnOk result (new ≡ posts_behind r posts m call)
-on_ok r call m posts new (Ok a) e = e
-on_ok r call m posts new (Err f) e = tt
-
-pub on_err : {A E : Type 0} (r : Rules) (call : Call) (m : ℕ) (posts new : List Post) (result : Result A E) → PostsAfter r call m posts new result → OnErr result (new ≡ fallen_at posts m)
-on_err r call m posts new (Ok a) e = tt
-on_err r call m posts new (Err f) e = e
+pub served_in : {A : Type 0} (Says : Member → A → Type 0) (terms : Terms) (posts : List Post) (n m : ℕ) (r : Rules) (call : Call) (old p : Post) (before now : Option Journals) (result : Result (Reply A) SeatFault) → n ≡ length posts → m < n → old ≡ get_or posts m old
+    → IfOk result (Replies Says (reached_post r call (Some old))) → PostAfter r call old p result → Leaves before now m (record_left (reached_post r call (Some old))) result
+    → (IsErrOf result faults.KeepFault → is_some (record_left (reached_post r call (Some old))) ≡ true) → (IsErrOf result faults.OutOfMemory → IsAble old.standing)
+    → Served Says r call m (record { terms = terms; posts = posts }) (record { terms = terms; posts = set posts m p }) before now result
+served_in Says terms posts n m r call old p before now result count low is answer post kept owed able = record {
+  answer = said_in Says posts n m r call old result count low is answer;
+  posts = posts_after posts n m r call old p result count low is post;
+  terms = refl;
+  many = set_length posts m p;
+  kept = left_in before now posts n m r call old result count low is kept;
+  owed = owed_in posts n m r call old result count low is owed;
+  able = able_in posts n m old result count low is able;
+}

@@ -1,22 +1,22 @@
 -- What a member answers to the close of its epoch, and what becomes of the call.
-use Rattle.std.proofs.Common.{◌≡◌, ◌∙◌, ap, sym, refl, ℕ, Bool, List, ◌++◌, map, append-nil, Result, Ok, Err}
+use Rattle.std.proofs.Common.{◌≡◌, ◌∙◌, ap, sym, ℕ, Bool, List, ◌++◌, map, append-nil, Result, Ok, Err}
 use Rattle.protocol_spec.specs.declared.refusals.CloseRefusal.{CloseRefusal}
 use Rattle.protocol_spec.specs.declared.refusals.CloseRefusal.TheVariants as no_close
 use Rattle.protocol_spec.specs.Chain.Certificates.{Rules}
 use Rattle.protocol_spec.specs.Member.Calls.{close_answer, closes}
-use Rattle.report_text.specs.declared.lines.CloseText.{CloseText}
-use Rattle.report_text.specs.declared.lines.CloseText.TheVariants as close_text
 use Rattle.validator_core.specs.Calls.{Closes, close_ended}
 use Rattle.validator_core.specs.Seats.{answered}
 use Rattle.world_spec.specs.Setting.{Trust}
 use Rattle.world_spec.specs.World.{Reached, Said, answers, finds_down, said_by, stated, stops}
 use Rattle.world_spec.specs.Report.{close_answered, close_reached}
 use Rattle.world_spec.proofs.LineWorlds.{close_same}
-use Rattle.world_spec.specs.Known.{Known, world_with}
+use Rattle.world_spec.specs.Known.{world_with}
 use Rattle.world_spec.specs.Posts.{reached_in, stated_in}
 use Rattle.world_spec.specs.Scene.{Scene, bare_setting, bare_world, rules_in}
-use Rattle.world_core.specs.Replies.{HasAnswered, HasStopped, SaysClose}
-use Rattle.world_core.specs.Texts.{close_text_by}
+use Rattle.world_core.specs.Replies.{Replies, SaysClose}
+use Rattle.world_core.specs.declared.reply.Reply.{Reply}
+use Rattle.world_core.specs.declared.reply.Reply.TheVariants as reply
+use Rattle.world_core.specs.Texts.{close_replied}
 
 close_is : (said given : Result Bool CloseRefusal) → Closes said given → close_ended given ≡ answered → said ≡ given
 close_is said (Ok new) is e = is
@@ -26,26 +26,17 @@ close_is said (Err no_close.Down) is e = is
 close_is said (Err (no_close.Halted first second)) is e = is
 close_is said (Err no_close.Full) is e = is
 
-pub close_down : (k : Known) (r : Rules) (what : Reached) → what ≡ finds_down → close_text.Down ≡ close_text_by k r what
-close_down k r what is = sym (ap (close_text_by k r) is)
-
-pub close_stopped : (k : Known) (r : Rules) (what : Reached) → HasStopped what → close_text.Stopped ≡ close_text_by k r what
-close_stopped k r what is = sym (ap (close_text_by k r) is.is)
-
-pub close_said : (k : Known) (r : Rules) (what : Reached) (given : Result Bool CloseRefusal) (text : CloseText)
-    → HasAnswered (SaysClose r) what given → text ≡ close_answered (world_with k) given → text ≡ close_text_by k r what
-close_said k r what given text is t =
-    t
-    ∙ sym (ap (close_answered (world_with k)) (close_is (close_answer r is.before) given is.says.answer is.says.ended))
-    ∙ sym (ap (close_text_by k r) is.is)
-
-pub close_text_is : (trust : Trust) (sc : Scene) (m : ℕ) → close_text_by sc.known (rules_in trust.accepts sc) (reached_in (rules_in trust.accepts sc) sc.posts m closes) ≡ close_reached (bare_setting trust sc) (bare_world sc) (reached_in (rules_in trust.accepts sc) sc.posts m closes)
-close_text_is trust sc m = go (reached_in (rules_in trust.accepts sc) sc.posts m closes)
+pub close_reply : (trust : Trust) (sc : Scene) (m : ℕ) (given : Reply (Result Bool CloseRefusal)) → Replies (SaysClose (rules_in trust.accepts sc)) (reached_in (rules_in trust.accepts sc) sc.posts m closes) given
+    → close_replied sc.known given ≡ close_reached (bare_setting trust sc) (bare_world sc) (reached_in (rules_in trust.accepts sc) sc.posts m closes)
+close_reply trust sc m given is = go (reached_in (rules_in trust.accepts sc) sc.posts m closes) given is
   where
-    go : (what : Reached) → close_text_by sc.known (rules_in trust.accepts sc) what ≡ close_reached (bare_setting trust sc) (bare_world sc) what
-    go finds_down = refl
-    go (stops kept x) = refl
-    go (answers before x) = sym (close_same (bare_setting trust sc) (bare_world sc) (close_answer (rules_in trust.accepts sc) before))
+    go : (what : Reached) (given : Reply (Result Bool CloseRefusal)) → Replies (SaysClose (rules_in trust.accepts sc)) what given → close_replied sc.known given ≡ close_reached (bare_setting trust sc) (bare_world sc) what
+    go what reply.Down is = sym (ap (close_reached (bare_setting trust sc) (bare_world sc)) is)
+    go what reply.Stopped is = sym (ap (close_reached (bare_setting trust sc) (bare_world sc)) is.is)
+    go what (reply.Answered given) is =
+        sym (ap (close_answered (world_with sc.known)) (close_is (close_answer (rules_in trust.accepts sc) is.before) given is.says.answer is.says.ended))
+        ∙ sym (close_same (bare_setting trust sc) (bare_world sc) (close_answer (rules_in trust.accepts sc) is.before))
+        ∙ sym (ap (close_reached (bare_setting trust sc) (bare_world sc)) is.is)
 
 -- nothing is stated
 pub close_states : (r : Rules) (m : ℕ) (xs : List Said) (what : Reached) → xs ≡ xs ++ map (said_by m) (stated_in r closes what)

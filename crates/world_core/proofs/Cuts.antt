@@ -1,24 +1,19 @@
 -- What stands after a line that did not come to its end, in each of its ways.
-use Rattle.std.proofs.Common.{◌≡◌, ◌⊎◌, inl, inr, ◌∙◌, ap, sym, refl, subst, ℕ, true, false, List, length, Option, Some, None, option_map, Result, Ok, Err, OnErr, arith}
-use Rattle.digest_core.specs.declared.Digest.{Digest}
-use Rattle.quorum_core.specs.declared.signer.Signer.{Signer}
+use Rattle.std.proofs.Common.{◌≡◌, inl, inr, ◌∙◌, ap, sym, refl, subst, ℕ, true, false, List, length, Option, Some, None, Result, Ok, Err, OnErr, arith}
 use Rattle.outside.specs.Lists.{Journals, KeepsJournals}
-use Rattle.chain_messages.specs.declared.messages.Certificate.{Certificate}
 use Rattle.protocol_spec.specs.Chain.Certificates.{Rules}
-use Rattle.protocol_spec.specs.Member.Calls.{Call, holds, sees, votes}
+use Rattle.protocol_spec.specs.Member.Calls.{Call, sees}
 use Rattle.world_spec.specs.Setting.{Trust}
-use Rattle.world_spec.specs.World.{Made, Said}
+use Rattle.world_spec.specs.World.{Said}
 use Rattle.world_spec.specs.Terms.{Terms}
 use Rattle.world_spec.specs.Posts.{AddsAll, AddsLeft, MayAddLeft, Post, posts_behind, reached_in, record_left}
 use Rattle.world_spec.specs.Scene.{Scene, rules_in}
-use Rattle.world_spec.specs.Moves.{held_call, signed_call}
-use Rattle.world_spec.specs.SceneSteps.{Work, asked, asks, called_scene, hands, idle, next_on, sees_left, sees_to, voted_scene}
+use Rattle.world_spec.specs.SceneSteps.{Work, asks, hands, idle, next_on, sees_left, sees_to}
 use Rattle.world_core.specs.Crews.{fallen_at}
 use Rattle.world_core.specs.Cuts.{Books, CallCut, EntriesCut, SeenCut, LineCut, NextCut, Still, books_in, ended, fell, still_in, unmade}
 use Rattle.schedule_text.specs.declared.words.Event.{Event}
 use Rattle.world_core.specs.Kept.{is_quiet}
 use Rattle.world_core.specs.Sees.{next_by}
-use Rattle.world_core.specs.Texts.{spelled_cert, spelled_tx}
 use Rattle.world_core.proofs.Nexts.{next_is}
 use Rattle.world_core.proofs.Seeing.{adds_none}
 use Rattle.validator_core.proofs.Settling.{keeps_same}
@@ -38,21 +33,7 @@ call_fell r m call old new before now is adds = record { outcome = fell; posts =
 pub call_ended : (r : Rules) (m : ℕ) (call : Call) (old new : List Post) (before now : Option Journals) → new ≡ posts_behind r old m call → AddsLeft before now m (record_left (reached_in r old m call)) → CallCut r m call old new before now
 call_ended r m call old new before now is adds = record { outcome = ended; posts = is; lists = adds }
 
--- after which something else may fail
-pub call_ended_on : {A E : Type 0} (r : Rules) (m : ℕ) (call : Call) (old new : List Post) (before now : Option Journals) (result : Result A E) → new ≡ posts_behind r old m call → AddsLeft before now m (record_left (reached_in r old m call))
-    → OnErr result (CallCut r m call old new before now)
-call_ended_on r m call old new before now result is adds = on_err (CallCut r m call old new before now) result (call_ended r m call old new before now is adds)
-
-pub scene_ended_on : {A E : Type 0} (r : Rules) (m : ℕ) (call : Call) (sc new : Scene) (before now : Option Journals) (result : Result A E) → new ≡ called_scene r sc m call → AddsLeft before now m (record_left (reached_in r sc.posts m call))
-    → OnErr result (LineCut r sc (asks m call) new.posts before now)
-scene_ended_on r m call sc new before now result is adds = call_ended_on r m call sc.posts new.posts before now result (ap (λ (x : Scene). x.posts) is) adds
-
 -- ---- what is seen of a world
-
--- a call, by the members that are seen
-pub cut_seen : {A E : Type 0} (trust : Trust) (v sc : Scene) (m : ℕ) (call : Call) (new : List Post) (before now : Option Journals) (result : Result A E) → v ≡ sc → OnErr result (CallCut (rules_in trust.accepts v) m call v.posts new before now)
-    → OnErr result (CallCut (rules_in trust.accepts sc) m call sc.posts new before now)
-cut_seen trust v sc m call new before now result view is = subst (λ (x : Scene). OnErr result (CallCut (rules_in trust.accepts x) m call x.posts new before now)) view is
 
 abbrev books_with : Scene → Terms → ℕ → Books
 books_with v terms many = record { many = many; terms = terms; opening = v.opening; known = v.known; sequences = v.sequences; epoch = v.epoch; certs = v.certs }
@@ -108,30 +89,6 @@ start_posts sc new e (Err x) same = λ (_ : is_quiet e ≡ true). ap (λ (y : Sc
 pub idle_line_on : {A E : Type 0} (r : Rules) (sc new : Scene) (before now : Option Journals) (result : Result A E) → OnErr result (new ≡ sc) → KeepsJournals before now → OnErr result (LineCut r sc idle new.posts before now)
 idle_line_on r sc new before now (Ok a) same keeps = tt
 idle_line_on r sc new before now (Err e) same keeps = record { posts = ap (λ (x : Scene). x.posts) same; lists = keeps }
-
--- ---- a line that names a transaction or a certificate
-
-pub vote_line : (r : Rules) (sc : Scene) (new : List Post) (m : ℕ) (t : Option Made) (bytes : List ℕ) (before now : Option Journals) → Some bytes ≡ option_map spelled_tx t → CallCut r m (votes bytes) sc.posts new before now
-    → LineCut r sc (asked m (option_map signed_call t)) new before now
-vote_line r sc new m None bytes before now e is = absurd (cc)
-vote_line r sc new m (Some t) bytes before now e is = subst (λ (b : List ℕ). CallCut r m (votes b) sc.posts new before now) (cc) is
-
-pub vote_line_on : {A E : Type 0} (seal : Signer → List ℕ → Digest) (r : Rules) (sc new : Scene) (m : ℕ) (t : Option Made) (bytes : List ℕ) (before now : Option Journals) (result : Result A E) → Some bytes ≡ option_map spelled_tx t → new ≡ voted_scene seal r sc m bytes
-    → AddsLeft before now m (record_left (reached_in r sc.posts m (votes bytes))) → OnErr result (LineCut r sc (asked m (option_map signed_call t)) new.posts before now)
-vote_line_on seal r sc new m t bytes before now result e is adds =
-    on_err (LineCut r sc (asked m (option_map signed_call t)) new.posts before now) result
-    (vote_line r sc new.posts m t bytes before now e (call_ended r m (votes bytes) sc.posts new.posts before now (ap (λ (x : Scene). x.posts) is) adds))
-
-pub send_line : (r : Rules) (sc : Scene) (new : List Post) (m : ℕ) (c : Option Certificate) (bytes : List ℕ) (before now : Option Journals) → Some bytes ≡ option_map spelled_cert c → CallCut r m (holds bytes) sc.posts new before now
-    → LineCut r sc (asked m (option_map held_call c)) new before now
-send_line r sc new m None bytes before now e is = absurd (cc)
-send_line r sc new m (Some c) bytes before now e is = subst (λ (b : List ℕ). CallCut r m (holds b) sc.posts new before now) (cc) is
-
-pub send_line_on : {A E : Type 0} (r : Rules) (sc new : Scene) (m : ℕ) (c : Option Certificate) (bytes : List ℕ) (before now : Option Journals) (result : Result A E) → Some bytes ≡ option_map spelled_cert c → new ≡ called_scene r sc m (holds bytes)
-    → AddsLeft before now m (record_left (reached_in r sc.posts m (holds bytes))) → OnErr result (LineCut r sc (asked m (option_map held_call c)) new.posts before now)
-send_line_on r sc new m c bytes before now result e is adds =
-    on_err (LineCut r sc (asked m (option_map held_call c)) new.posts before now) result
-    (send_line r sc new.posts m c bytes before now e (call_ended r m (holds bytes) sc.posts new.posts before now (ap (λ (x : Scene). x.posts) is) adds))
 
 -- ---- entries
 

@@ -10,7 +10,6 @@ pub mod Texts
 pub mod Lines
 pub mod Voting
 pub mod Restarts
-pub mod Steps
 pub mod Stays
 pub mod Stated
 pub mod Seeing
@@ -26,5 +25,7 @@ pub mod Saying
 pub mod Acking
 pub mod OrderedEnds
 pub mod Asked
+pub mod Serving
+pub mod Dispatching
 pub mod Cuts
 mod First

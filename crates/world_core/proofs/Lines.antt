@@ -1,11 +1,9 @@
 -- A line that names a transaction or a certificate, by what is encoded.
-use Rattle.std.proofs.Common.{◌≡◌, ◌∙◌, ap, refl, sym, subst, ℕ, List, [], ◌∷◌, Option, Some, None, Result, Ok, Err, option_map, append-nil, inl, inr}
+use Rattle.std.proofs.Common.{◌≡◌, ◌∙◌, ap, refl, sym, ℕ, List, [], ◌∷◌, Option, Some, None, Result, Ok, Err, option_map, append-nil, inl, inr}
 use Rattle.outside.specs.Lists.{Journals}
-use Rattle.digest_core.specs.declared.Digest.{Digest}
-use Rattle.quorum_core.specs.declared.signer.Signer.{Signer}
 use Rattle.chain_messages.specs.declared.messages.Certificate.{Certificate}
 use Rattle.protocol_spec.specs.Chain.Certificates.{Rules}
-use Rattle.protocol_spec.specs.Member.Calls.{Call, holds, votes}
+use Rattle.protocol_spec.specs.Member.Calls.{Call}
 use Rattle.report_text.specs.declared.lines.Line.{Line}
 use Rattle.report_text.specs.declared.lines.Line.TheVariants as line
 use Rattle.report_text.specs.declared.lines.SendText.{SendText}
@@ -17,12 +15,9 @@ use Rattle.world_spec.specs.World.{Made}
 use Rattle.journal_core.specs.declared.records.Record.{Record}
 use Rattle.world_spec.specs.Posts.{AddsAll, AddsFront, AddsLeft, MayAddLeft, list_of, reached_in, record_left}
 use Rattle.world_spec.specs.Scene.{Scene}
-use Rattle.world_spec.specs.Moves.{held_call, signed_call}
-use Rattle.world_spec.specs.SceneSteps.{MayAddLine, asked, asks, called_scene, hold_text_in, records_left, send_text_in, vote_lines_in, vote_text_in, voted_scene, worked}
-use Rattle.world_core.specs.Replies.{Leaves}
+use Rattle.world_spec.specs.SceneSteps.{asks, hold_text_in, send_text_in, vote_lines_in, vote_text_in}
 use Rattle.world_core.specs.Kept.{LeavesAs}
 use Rattle.world_core.specs.Texts.{spelled_cert, spelled_tx}
-use Rattle.validator_core.proofs.Settling.{keeps_same}
 
 -- ---- observable lists after a call
 
@@ -40,79 +35,25 @@ adds_front (Some lists) now m x (inr keeps) = record { front = []; rest = list_o
 
 -- ---- vote
 
-pub vote_none_world : (seal : Signer → List ℕ → Digest) (r : Rules) (sc : Scene) (m : ℕ) (t : Option Made) → None ≡ option_map spelled_tx t → sc ≡ worked seal r sc (asked m (option_map signed_call t))
-vote_none_world seal r sc m None e = refl
-vote_none_world seal r sc m (Some t) e = absurd (cc)
-
 pub vote_none_lines : (trust : Trust) (sc : Scene) (m : ℕ) (name : Name) (t : Option Made) (lines : List Line) → None ≡ option_map spelled_tx t → lines ≡ line.Vote m name vote_text.Down ∷ [] → lines ≡ vote_lines_in trust sc m name t
 vote_none_lines trust sc m name None lines e l = l
 vote_none_lines trust sc m name (Some t) lines e l = absurd (cc)
-
-pub vote_none_kept : {A E : Type 0} (r : Rules) (sc : Scene) (m : ℕ) (t : Option Made) (told : Option Journals) (result : Result A E) → None ≡ option_map spelled_tx t → LeavesAs r sc (asked m (option_map signed_call t)) told told result
-vote_none_kept r sc m None told (Ok a) e = keeps_same told
-vote_none_kept r sc m None told (Err x) e = keeps_same told
-vote_none_kept r sc m (Some t) told result e = absurd (cc)
-
-pub vote_some_world : (seal : Signer → List ℕ → Digest) (r : Rules) (sc new : Scene) (m : ℕ) (t : Option Made) (bytes : List ℕ) → Some bytes ≡ option_map spelled_tx t → new ≡ voted_scene seal r sc m bytes → new ≡ worked seal r sc (asked m (option_map signed_call t))
-vote_some_world seal r sc new m None bytes e n = absurd (cc)
-vote_some_world seal r sc new m (Some t) bytes e n = n ∙ ap (λ b. voted_scene seal r sc m b) (cc)
 
 pub vote_some_lines : (trust : Trust) (sc : Scene) (m : ℕ) (name : Name) (t : Option Made) (bytes : List ℕ) (lines : List Line) (text : VoteText) → Some bytes ≡ option_map spelled_tx t → text ≡ vote_text_in trust sc m bytes → lines ≡ line.Vote m name text ∷ [] → lines ≡ vote_lines_in trust sc m name t
 vote_some_lines trust sc m name None bytes lines text e x l = absurd (cc)
 vote_some_lines trust sc m name (Some t) bytes lines text e x l = l ∙ ap (λ y. line.Vote m name y ∷ []) (x ∙ ap (vote_text_in trust sc m) (cc))
 
-pub vote_some_kept : {B F : Type 0} (r : Rules) (sc : Scene) (m : ℕ) (t : Option Made) (bytes : List ℕ) (before now : Option Journals) → Some bytes ≡ option_map spelled_tx t
-    → AddsLeft before now m (record_left (reached_in r sc.posts m (votes bytes))) → (result : Result B F) → LeavesAs r sc (asked m (option_map signed_call t)) before now result
-vote_some_kept r sc m None bytes before now e is result = absurd (cc)
-vote_some_kept r sc m (Some t) bytes before now e is (Ok b) = adds_all before now m _ (subst (λ c. AddsLeft before now m (record_left (reached_in r sc.posts m (votes c)))) (cc) is)
-vote_some_kept r sc m (Some t) bytes before now e is (Err b) = adds_front before now m _ (inl (subst (λ c. AddsLeft before now m (record_left (reached_in r sc.posts m (votes c)))) (cc) is))
-
--- if nothing more comes of it
-pub vote_cut : (r : Rules) (sc : Scene) (m : ℕ) (t : Option Made) (bytes : List ℕ) (before now : Option Journals) → Some bytes ≡ option_map spelled_tx t
-    → MayAddLeft before now m (record_left (reached_in r sc.posts m (votes bytes))) → MayAddLine (records_left r sc (asked m (option_map signed_call t))) before now
-vote_cut r sc m None bytes before now e is = absurd (cc)
-vote_cut r sc m (Some t) bytes before now e is = adds_front before now m _ (subst (λ c. MayAddLeft before now m (record_left (reached_in r sc.posts m (votes c)))) (cc) is)
-
 -- ---- send
-
-pub send_none_world : (seal : Signer → List ℕ → Digest) (r : Rules) (sc : Scene) (m : ℕ) (c : Option Certificate) → None ≡ option_map spelled_cert c → sc ≡ worked seal r sc (asked m (option_map held_call c))
-send_none_world seal r sc m None e = refl
-send_none_world seal r sc m (Some c) e = absurd (cc)
 
 pub send_none_lines : (trust : Trust) (sc : Scene) (m : ℕ) (name : Name) (c : Option Certificate) (lines : List Line) → None ≡ option_map spelled_cert c → lines ≡ line.Send m name send_text.NoCertificate ∷ [] → lines ≡ line.Send m name (send_text_in trust sc m c) ∷ []
 send_none_lines trust sc m name None lines e l = l
 send_none_lines trust sc m name (Some c) lines e l = absurd (cc)
 
-pub send_none_kept : {A E : Type 0} (r : Rules) (sc : Scene) (m : ℕ) (c : Option Certificate) (told : Option Journals) (result : Result A E) → None ≡ option_map spelled_cert c → LeavesAs r sc (asked m (option_map held_call c)) told told result
-send_none_kept r sc m None told (Ok a) e = keeps_same told
-send_none_kept r sc m None told (Err x) e = keeps_same told
-send_none_kept r sc m (Some c) told result e = absurd (cc)
-
-pub send_some_world : (seal : Signer → List ℕ → Digest) (r : Rules) (sc new : Scene) (m : ℕ) (c : Option Certificate) (bytes : List ℕ) → Some bytes ≡ option_map spelled_cert c → new ≡ called_scene r sc m (holds bytes) → new ≡ worked seal r sc (asked m (option_map held_call c))
-send_some_world seal r sc new m None bytes e n = absurd (cc)
-send_some_world seal r sc new m (Some c) bytes e n = n ∙ ap (λ b. called_scene r sc m (holds b)) (cc)
-
 pub send_some_lines : (trust : Trust) (sc : Scene) (m : ℕ) (name : Name) (c : Option Certificate) (bytes : List ℕ) (lines : List Line) (text : SendText) → Some bytes ≡ option_map spelled_cert c → text ≡ hold_text_in trust sc m bytes → lines ≡ line.Send m name text ∷ [] → lines ≡ line.Send m name (send_text_in trust sc m c) ∷ []
 send_some_lines trust sc m name None bytes lines text e x l = absurd (cc)
 send_some_lines trust sc m name (Some c) bytes lines text e x l = l ∙ ap (λ y. line.Send m name y ∷ []) (x ∙ ap (hold_text_in trust sc m) (cc))
 
-pub send_some_kept : {B F : Type 0} (r : Rules) (sc : Scene) (m : ℕ) (c : Option Certificate) (bytes : List ℕ) (before now : Option Journals) → Some bytes ≡ option_map spelled_cert c
-    → AddsLeft before now m (record_left (reached_in r sc.posts m (holds bytes))) → (result : Result B F) → LeavesAs r sc (asked m (option_map held_call c)) before now result
-send_some_kept r sc m None bytes before now e is result = absurd (cc)
-send_some_kept r sc m (Some c) bytes before now e is (Ok b) = adds_all before now m _ (subst (λ x. AddsLeft before now m (record_left (reached_in r sc.posts m (holds x)))) (cc) is)
-send_some_kept r sc m (Some c) bytes before now e is (Err b) = adds_front before now m _ (inl (subst (λ x. AddsLeft before now m (record_left (reached_in r sc.posts m (holds x)))) (cc) is))
-
-pub send_cut : (r : Rules) (sc : Scene) (m : ℕ) (c : Option Certificate) (bytes : List ℕ) (before now : Option Journals) → Some bytes ≡ option_map spelled_cert c
-    → MayAddLeft before now m (record_left (reached_in r sc.posts m (holds bytes))) → MayAddLine (records_left r sc (asked m (option_map held_call c))) before now
-send_cut r sc m None bytes before now e is = absurd (cc)
-send_cut r sc m (Some c) bytes before now e is = adds_front before now m _ (subst (λ x. MayAddLeft before now m (record_left (reached_in r sc.posts m (holds x)))) (cc) is)
-
 -- ---- a call after which something else fails
-
--- what a call leaves, as what its line leaves
-pub left_as : {A E : Type 0} (r : Rules) (sc : Scene) (m : ℕ) (call : Call) (before now : Option Journals) (result : Result A E) → Leaves before now m (record_left (reached_in r sc.posts m call)) result → LeavesAs r sc (asks m call) before now result
-left_as r sc m call before now (Ok a) is = adds_all before now m (record_left (reached_in r sc.posts m call)) is
-left_as r sc m call before now (Err e) is = adds_front before now m (record_left (reached_in r sc.posts m call)) is
 
 pub left_on : {A E : Type 0} (r : Rules) (sc : Scene) (m : ℕ) (call : Call) (before now : Option Journals) (result : Result A E) → AddsLeft before now m (record_left (reached_in r sc.posts m call)) → LeavesAs r sc (asks m call) before now result
 left_on r sc m call before now (Ok a) is = adds_all before now m (record_left (reached_in r sc.posts m call)) is

@@ -1,5 +1,5 @@
 -- The next entry of a member, by what is seen of it.
-use Rattle.std.proofs.Common.{◌≡◌, ◌∙◌, ap, sym, refl, subst, ℕ, Bool, true, false, cond, List, ◌++◌, Option, Some, None, option_map, Result, Ok, Err}
+use Rattle.std.proofs.Common.{◌≡◌, ◌∙◌, ap, sym, refl, subst, ℕ, Bool, true, false, cond, List, ◌++◌, length, map, Option, Some, None, option_map, Result, Ok, Err}
 use Rattle.std.specs.Prelude.{OnOk, option_and_then, slice_get}
 use Rattle.chain_messages.specs.declared.messages.Entry.{Entry}
 use Rattle.journal_core.specs.declared.records.Record.{Record}
@@ -7,18 +7,23 @@ use Rattle.outside.specs.Lists.{Journals}
 use Rattle.report_text.specs.declared.lines.Line.{Line}
 use Rattle.protocol_spec.specs.Member.Member.{Member}
 use Rattle.protocol_spec.specs.Member.Calls.{Call, sees}
+use Rattle.protocol_spec.specs.declared.answers.Seen.{Seen}
+use Rattle.protocol_spec.specs.declared.refusals.SeeRefusal.{SeeRefusal}
+use Rattle.world_core.specs.declared.reply.Reply.{Reply}
 use Rattle.world_lines.specs.Orders.{spelled_entry}
 use Rattle.world_spec.specs.Setting.{Trust}
-use Rattle.world_spec.specs.World.{entries_at, next_call_of, numbered_call}
+use Rattle.world_spec.specs.World.{Said, entries_at, next_call_of, numbered_call, said_by}
 use Rattle.world_spec.specs.Report.{Lines}
-use Rattle.world_spec.specs.Posts.{AddsAll, AddsFront, Post, list_of, reached_in, record_left}
+use Rattle.world_spec.specs.Posts.{AddsAll, AddsFront, Post, list_of, posts_behind, reached_in, record_left, stated_in}
+use Rattle.world_spec.specs.Terms.{Terms}
 use Rattle.world_spec.specs.Scene.{Scene, bare_world, rules_in}
 use Rattle.world_spec.specs.Seats.{Seated}
-use Rattle.world_spec.specs.SceneSteps.{call_lines_in, left_if, next_on, seat_state, standing_at}
-use Rattle.world_core.specs.Replies.{Leaves}
-use Rattle.world_core.specs.Sees.{LeavesAll, next_by, next_for, see_lines_by}
+use Rattle.world_spec.specs.SceneSteps.{call_lines_in, called_if, called_scene, left_if, next_on, seat_state, standing_at}
+use Rattle.world_core.specs.Stays.{Stays}
+use Rattle.world_core.specs.Replies.{Leaves, Replies, SaysSee}
+use Rattle.world_core.specs.Sees.{LeavesAll, next_by, next_for, see_replied}
 use Rattle.world_core.proofs.Lines.{adds_all, adds_front}
-use Rattle.world_core.proofs.SeeTexts.{see_lines_are}
+use Rattle.world_core.proofs.SeeTexts.{see_reply}
 
 module _ (posts : List Post) (sequences : List (List Entry)) (m : ℕ) where
   by_standing : (standing : Option Seated) → standing ≡ standing_at (slice_get posts m) → next_by posts sequences m ≡ option_and_then (next_for sequences) (option_map seat_state standing)
@@ -72,15 +77,22 @@ module _ (trust : Trust) (v sc : Scene) (m number : ℕ) (bytes : List ℕ) (vie
   pub next_in : next_on sc m ≡ Some (sees number bytes)
   next_in = ap (λ (x : Scene). next_on x m) (sym view) ∙ sym (next_is v m) ∙ sym next
 
-  pub next_lines : {E : Type 0} (result : Result Bool E) (old new : List Line)
-      → OnOk result (new ≡ old ++ (see_lines_by v.known (rules_in trust.accepts v) m number bytes (reached_in (rules_in trust.accepts v) v.posts m (sees number bytes))).0)
-      → OnOk result (new ≡ old ++ (call_lines_in trust sc m (next_on sc m)).0)
-  next_lines (Err e) old new is = tt
-  next_lines (Ok goes) old new is =
+  pub next_lines : {E : Type 0} (stakes : List ℕ) (given : Reply (Result Seen SeeRefusal)) (result : Result Bool E) (old new : List Line) → stakes ≡ v.terms.stakes → Replies (SaysSee (rules_in trust.accepts v) number bytes) (reached_in (rules_in trust.accepts v) v.posts m (sees number bytes)) given
+      → OnOk result (new ≡ old ++ (see_replied v.known stakes m number given).0) → OnOk result (new ≡ old ++ (call_lines_in trust sc m (next_on sc m)).0)
+  next_lines stakes given (Err e) old new by says is = tt
+  next_lines stakes given (Ok goes) old new by says is =
       is
-      ∙ ap (λ (ls : Lines). old ++ ls.0) (see_lines_are trust v m number bytes (reached_in (rules_in trust.accepts v) v.posts m (sees number bytes)))
+      ∙ ap (λ (ls : Lines). old ++ ls.0) (see_reply trust v stakes m number bytes (reached_in (rules_in trust.accepts v) v.posts m (sees number bytes)) given by says)
       ∙ ap (λ (x : Scene). old ++ (call_lines_in trust x m (Some (sees number bytes))).0) view
       ∙ ap (λ (c : Option Call). old ++ (call_lines_in trust sc m c).0) (sym next_in)
+
+  pub next_goes : (stakes : List ℕ) (given : Reply (Result Seen SeeRefusal)) (goes : Bool) → stakes ≡ v.terms.stakes → Replies (SaysSee (rules_in trust.accepts v) number bytes) (reached_in (rules_in trust.accepts v) v.posts m (sees number bytes)) given
+      → goes ≡ (see_replied v.known stakes m number given).1 → goes ≡ (call_lines_in trust sc m (next_on sc m)).1
+  next_goes stakes given goes by says is =
+      is
+      ∙ ap (λ (ls : Lines). ls.1) (see_reply trust v stakes m number bytes (reached_in (rules_in trust.accepts v) v.posts m (sees number bytes)) given by says)
+      ∙ ap (λ (x : Scene). (call_lines_in trust x m (Some (sees number bytes))).1) view
+      ∙ ap (λ (c : Option Call). (call_lines_in trust sc m c).1) (sym next_in)
 
   left_is : list_of (record_left (reached_in (rules_in trust.accepts v) v.posts m (sees number bytes))) ≡ left_if (rules_in trust.accepts sc) sc m (next_on sc m)
   left_is = ap (λ (x : Scene). left_if (rules_in trust.accepts x) x m (Some (sees number bytes))) view ∙ ap (λ (c : Option Call). left_if (rules_in trust.accepts sc) sc m c) (sym next_in)
@@ -89,3 +101,17 @@ module _ (trust : Trust) (v sc : Scene) (m number : ℕ) (bytes : List ℕ) (vie
       → Leaves before now m (record_left (reached_in (rules_in trust.accepts v) v.posts m (sees number bytes))) result → LeavesAll before now m (left_if (rules_in trust.accepts sc) sc m (next_on sc m)) result
   next_kept (Ok goes) before now is = subst (λ (xs : List Record). AddsAll before now m xs) left_is (adds_all before now m (record_left (reached_in (rules_in trust.accepts v) v.posts m (sees number bytes))) is)
   next_kept (Err e) before now is = subst (λ (xs : List Record). AddsFront before now m xs) left_is (adds_front before now m (record_left (reached_in (rules_in trust.accepts v) v.posts m (sees number bytes))) is)
+
+  -- after it, by its members and what it states
+  pub next_world : (terms : Terms) (posts : List Post) (said : List Said) → terms ≡ v.terms → posts ≡ posts_behind (rules_in trust.accepts v) v.posts m (sees number bytes)
+      → said ≡ v.said ++ map (said_by m) (stated_in (rules_in trust.accepts v) (sees number bytes) (reached_in (rules_in trust.accepts v) v.posts m (sees number bytes)))
+      → record v { terms = terms; said = said; posts = posts } ≡ called_if (rules_in trust.accepts sc) sc m (next_on sc m)
+  next_world terms posts said t p s =
+      ap (λ (x : Terms). record v { terms = x; said = said; posts = posts }) t
+      ∙ ap (λ (x : List Post). record v { said = said; posts = x }) p
+      ∙ ap (λ (x : List Said). record v { said = x; posts = posts_behind (rules_in trust.accepts v) v.posts m (sees number bytes) }) s
+      ∙ ap (λ (x : Scene). called_scene (rules_in trust.accepts x) x m (sees number bytes)) view
+      ∙ ap (λ (c : Option Call). called_if (rules_in trust.accepts sc) sc m c) (sym next_in)
+
+  pub next_stays : (terms : Terms) (posts : List Post) (said : List Said) → terms ≡ v.terms → length posts ≡ length v.posts → Stays sc (record v { terms = terms; said = said; posts = posts })
+  next_stays terms posts said t many = subst (λ (x : Scene). Stays x (record v { terms = terms; said = said; posts = posts })) view (record { many = many; terms = t })

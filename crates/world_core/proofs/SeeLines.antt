@@ -1,5 +1,5 @@
 -- The line that hands a member entries, in each of its ways.
-use Rattle.std.proofs.Common.{◌≡◌, ◌∙◌, ap, sym, refl, subst, ℕ, zero, suc, true, false, List, [], ◌∷◌, length, Option, Some, None, option_map, Result, Ok, Err, OnErr, append-nil, arith}
+use Rattle.std.proofs.Common.{◌≡◌, ◌∙◌, ap, sym, refl, subst, ℕ, suc, true, false, List, [], ◌∷◌, length, Option, Some, None, option_map, Result, Ok, Err, OnErr, append-nil, arith}
 use Rattle.std.proofs.lemmas.Bool.{eqb-true}
 use Rattle.std.specs.Prelude.{◌==◌, min, slice_get}
 use Rattle.digest_core.specs.declared.Digest.{Digest}

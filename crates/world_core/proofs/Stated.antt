@@ -10,7 +10,7 @@ use Rattle.outside.specs.Lists.{Journals}
 use Rattle.protocol_spec.proofs.ListLemmas.{front_then, front_whole}
 use Rattle.protocol_spec.specs.Chain.Certificates.{Rules}
 use Rattle.protocol_spec.specs.Chain.Words.{IsFront}
-use Rattle.protocol_spec.specs.Member.Calls.{Call, acks, runs, sees, votes}
+use Rattle.protocol_spec.specs.Member.Calls.{Call, acks, sees, votes}
 use Rattle.report_text.specs.declared.lines.Line.{Line}
 use Rattle.schedule_text.specs.declared.words.Event.{Event}
 use Rattle.schedule_text.specs.declared.words.Event.TheVariants as event
@@ -153,15 +153,6 @@ unsaid_start trust sc new e (Err x) same = unsaid trust sc e new.said (ap (λ (y
 -- ---- of the world as it was
 
 module _ {A E : Type 0} (v sc : Scene) (said : List Said) (result : Result A E) (view : v ≡ sc) where
-  -- a call in which it was kept
-  pub unsaid_seen : OnErr result (said ≡ v.said) → OnErr result (said ≡ sc.said)
-  unsaid_seen same = subst (λ (x : Scene). OnErr result (said ≡ x.said)) view same
-
-  -- a run
-  pub run_grown : (trust : Trust) (m workers : ℕ) → OnErr result (GrowsToward v.said said (called_scene (rules_in trust.accepts v) v m runs).said) → OnErr result (GrowsToward sc.said said (steps_to trust sc (event.Run m workers)).said)
-  unfolding steps_to
-  run_grown trust m workers grew = subst (λ (x : Scene). OnErr result (GrowsToward x.said said (called_scene (rules_in trust.accepts x) x m runs).said)) view grew
-
   -- the next entry
   pub next_grown : (trust : Trust) (m number : ℕ) (bytes : List ℕ) → next_on sc m ≡ Some (sees number bytes) → OnErr result (GrowsToward v.said said (called_scene (rules_in trust.accepts v) v m (sees number bytes)).said)
       → OnErr result (GrowsToward sc.said said (called_if (rules_in trust.accepts sc) sc m (next_on sc m)).said)

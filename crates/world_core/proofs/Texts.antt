@@ -1,6 +1,6 @@
 -- What is said of calls, by what is known, is what the scene's lines say.
-use Rattle.std.proofs.Common.{◌≡◌, ◌∙◌, ap, sym, refl, subst, ℕ, Bool, true, List, [], ◌∷◌, ◌++◌, map, append-nil, Option, Some, None, Result, Ok, Err}
-use Rattle.std.specs.Prelude.{IfOk, option_map}
+use Rattle.std.proofs.Common.{◌≡◌, ◌∙◌, ap, sym, refl, ℕ, Bool, true, List, [], ◌∷◌, ◌++◌, map, append-nil, Option, Some, None, Result, Ok, Err}
+use Rattle.std.specs.Prelude.{option_map}
 use Rattle.digest_core.specs.declared.Digest.{Digest}
 use Rattle.quorum_core.specs.declared.signer.Signer.{Signer}
 use Rattle.chain_messages.specs.Messages as messages
@@ -15,16 +15,11 @@ use Rattle.protocol_spec.specs.declared.refusals.RunRefusal.TheVariants as no_ru
 use Rattle.protocol_spec.specs.declared.refusals.VoteRefusal.{VoteRefusal}
 use Rattle.protocol_spec.specs.declared.refusals.VoteRefusal.TheVariants as no_vote
 use Rattle.protocol_spec.specs.Member.Member.{Member, live_objects}
-use Rattle.protocol_spec.specs.Member.Calls.{Call, Voted, hold_answer, holds, run_answer, runs, vote_answer, votes}
+use Rattle.protocol_spec.specs.Member.Calls.{Voted, hold_answer, holds, run_answer, runs, vote_answer, votes}
 use Rattle.protocol_spec.specs.Chain.Certificates.{Rules}
 use Rattle.report_text.specs.declared.lines.Line.{Line}
 use Rattle.report_text.specs.declared.lines.Line.TheVariants as line
-use Rattle.report_text.specs.declared.lines.RunText.TheVariants as run_text
-use Rattle.report_text.specs.declared.lines.SendText.{SendText}
-use Rattle.report_text.specs.declared.lines.SendText.TheVariants as send_text
 use Rattle.report_text.specs.declared.lines.ShowText.TheVariants as show_text
-use Rattle.report_text.specs.declared.lines.VoteText.{VoteText}
-use Rattle.report_text.specs.declared.lines.VoteText.TheVariants as vote_text
 use Rattle.world_spec.specs.Setting.{Trust}
 use Rattle.world_spec.specs.World.{Reached, Said, answers, finds_down, ran_statements, said_by, stated, stops, voted_statement, sealed_by, said_under}
 use Rattle.world_spec.specs.Report.{hold_answered, hold_reached, run_answered, run_reached, shown, vote_answered, vote_reached}
@@ -36,12 +31,13 @@ use Rattle.world_spec.specs.Seats.{Seated}
 use Rattle.validator_core.specs.Seats.{answered}
 use Rattle.world_spec.specs.Posts.{reached_in, stated_in}
 use Rattle.world_spec.specs.Scene.{Scene, bare_setting, bare_world, rules_in}
-use Rattle.world_spec.specs.SceneSteps.{hold_text_in, lines_in, show_in, vote_text_in}
-use Rattle.schedule_text.specs.declared.words.Event.TheVariants as event
+use Rattle.world_spec.specs.SceneSteps.{hold_text_in, show_in, vote_text_in}
 use Rattle.world_core.specs.Crews.{shown_of}
-use Rattle.world_core.specs.Replies.{HasAnswered, HasStopped, SaysHold, SaysRun, SaysVote}
-use Rattle.world_core.specs.Texts.{hold_text_by, run_lines_by, show_by, vote_text_by}
-use Rattle.world_core.specs.Votes.{vote_under}
+use Rattle.world_core.specs.Replies.{Replies, SaysHold, SaysRun, SaysVote}
+use Rattle.world_core.specs.declared.reply.Reply.{Reply}
+use Rattle.world_core.specs.declared.reply.Reply.TheVariants as reply
+use Rattle.world_core.specs.Texts.{hold_replied, run_replied, run_stated, show_by, vote_replied}
+use Rattle.world_core.specs.Votes.{vote_stated, vote_under}
 
 -- ---- show
 
@@ -82,41 +78,20 @@ vote_is accepts m said (Err (no_vote.WrongKind key)) is e = is
 vote_is accepts m said (Err (no_vote.PoorGas had want)) is e = is
 vote_is accepts m said (Err (no_vote.Locked key by)) is e = is
 
-pub vote_down : (k : Known) (r : Rules) (bytes : List ℕ) (what : Reached) → what ≡ finds_down → vote_text.Down ≡ vote_text_by k r bytes what
-vote_down k r bytes what is = sym (ap (vote_text_by k r bytes) is)
-
-pub vote_stopped : (k : Known) (r : Rules) (bytes : List ℕ) (what : Reached) → HasStopped what → vote_text.Stopped ≡ vote_text_by k r bytes what
-vote_stopped k r bytes what is = sym (ap (vote_text_by k r bytes) is.is)
-
-pub vote_said : (k : Known) (r : Rules) (accepts : Signer → List ℕ → Digest → Bool) (m : ℕ) (bytes : List ℕ) (what : Reached) (given : Result Sent VoteRefusal) (text : VoteText)
-    → HasAnswered (SaysVote r accepts m bytes) what given → text ≡ vote_answered (setting_with k) (world_with k) (vote_as given) → text ≡ vote_text_by k r bytes what
-vote_said k r accepts m bytes what given text is t =
-    t
-    ∙ sym (ap (vote_answered (setting_with k) (world_with k)) (vote_is accepts m (vote_answer r is.before bytes) given is.says.answer is.says.ended))
-    ∙ sym (ap (vote_text_by k r bytes) is.is)
-
-pub vote_text_is : (trust : Trust) (sc : Scene) (m : ℕ) (bytes : List ℕ) → vote_text_by sc.known (rules_in trust.accepts sc) bytes (reached_in (rules_in trust.accepts sc) sc.posts m (votes bytes)) ≡ vote_text_in trust sc m bytes
-vote_text_is trust sc m bytes = go (reached_in (rules_in trust.accepts sc) sc.posts m (votes bytes))
+-- the text for a reply is the definition's, by what became of the call
+pub vote_reply : (trust : Trust) (sc : Scene) (m : ℕ) (bytes : List ℕ) (given : Reply (Result Sent VoteRefusal)) → Replies (SaysVote (rules_in trust.accepts sc) trust.accepts m bytes) (reached_in (rules_in trust.accepts sc) sc.posts m (votes bytes)) given
+    → vote_replied sc.known given ≡ vote_text_in trust sc m bytes
+vote_reply trust sc m bytes given is = go (reached_in (rules_in trust.accepts sc) sc.posts m (votes bytes)) given is
   where
-    go : (what : Reached) → vote_text_by sc.known (rules_in trust.accepts sc) bytes what ≡ vote_reached (bare_setting trust sc) (bare_world sc) bytes what
-    go finds_down = refl
-    go (stops kept x) = refl
-    go (answers before x) = sym (vote_same (bare_setting trust sc) (bare_world sc) (vote_answer (rules_in trust.accepts sc) before bytes))
+    go : (what : Reached) (given : Reply (Result Sent VoteRefusal)) → Replies (SaysVote (rules_in trust.accepts sc) trust.accepts m bytes) what given → vote_replied sc.known given ≡ vote_reached (bare_setting trust sc) (bare_world sc) bytes what
+    go what reply.Down is = sym (ap (vote_reached (bare_setting trust sc) (bare_world sc) bytes) is)
+    go what reply.Stopped is = sym (ap (vote_reached (bare_setting trust sc) (bare_world sc) bytes) is.is)
+    go what (reply.Answered given) is =
+        sym (ap (vote_answered (setting_with sc.known) (world_with sc.known)) (vote_is trust.accepts m (vote_answer (rules_in trust.accepts sc) is.before bytes) given is.says.answer is.says.ended))
+        ∙ sym (vote_same (bare_setting trust sc) (bare_world sc) (vote_answer (rules_in trust.accepts sc) is.before bytes))
+        ∙ sym (ap (vote_reached (bare_setting trust sc) (bare_world sc) bytes) is.is)
 
 -- ---- statements
-
-pub down_states : (r : Rules) (call : Call) (m : ℕ) (xs : List Said) (what : Reached) → what ≡ finds_down → xs ≡ xs ++ map (said_by m) (stated_in r call what)
-down_states r call m xs what is = sym (append-nil xs) ∙ sym (ap (λ x. xs ++ map (said_by m) (stated_in r call x)) is)
-
-pub stopped_states : (r : Rules) (call : Call) (m : ℕ) (xs : List Said) (what : Reached) → HasStopped what → xs ≡ xs ++ map (said_by m) (stated_in r call what)
-stopped_states r call m xs what is = sym (append-nil xs) ∙ sym (ap (λ x. xs ++ map (said_by m) (stated_in r call x)) is.is)
-
--- likewise of what a member states under its seal
-pub down_casts : (seal : Signer → List ℕ → Digest) (r : Rules) (call : Call) (m : ℕ) (xs : List Said) (what : Reached) → what ≡ finds_down → xs ≡ xs ++ map (sealed_by seal m) (stated_in r call what)
-down_casts seal r call m xs what is = sym (append-nil xs) ∙ sym (ap (λ x. xs ++ map (sealed_by seal m) (stated_in r call x)) is)
-
-pub stopped_casts : (seal : Signer → List ℕ → Digest) (r : Rules) (call : Call) (m : ℕ) (xs : List Said) (what : Reached) → HasStopped what → xs ≡ xs ++ map (sealed_by seal m) (stated_in r call what)
-stopped_casts seal r call m xs what is = sym (append-nil xs) ∙ sym (ap (λ x. xs ++ map (sealed_by seal m) (stated_in r call x)) is.is)
 
 -- the seal of a vote is accepted, so it is the one that is made
 vote_made : (accepts : Signer → List ℕ → Digest → Bool) (seal : Signer → List ℕ → Digest) → ((by : Signer) (text : List ℕ) (d : Digest) → accepts by text d ≡ true → d ≡ seal by text)
@@ -124,14 +99,15 @@ vote_made : (accepts : Signer → List ℕ → Digest → Bool) (seal : Signer �
 vote_made accepts seal exact m said (Ok v) is = ap (λ (d : Digest). said_under d m v.sealed.statement ∷ []) (exact (signers.Member m) (messages.statement.spell v.sealed.statement) v.sealed.seal is.1.accepted)
 vote_made accepts seal exact m said (Err refusal) is = refl
 
-pub vote_states : (r : Rules) (accepts : Signer → List ℕ → Digest → Bool) (seal : Signer → List ℕ → Digest) → ((by : Signer) (text : List ℕ) (d : Digest) → accepts by text d ≡ true → d ≡ seal by text) → (m : ℕ) (bytes : List ℕ) (xs ys : List Said) (what : Reached) (given : Result Sent VoteRefusal)
-    → HasAnswered (SaysVote r accepts m bytes) what given → ys ≡ xs ++ vote_under m given → ys ≡ xs ++ map (sealed_by seal m) (stated_in r (votes bytes) what)
+pub vote_states : (r : Rules) (accepts : Signer → List ℕ → Digest → Bool) (seal : Signer → List ℕ → Digest) → ((by : Signer) (text : List ℕ) (d : Digest) → accepts by text d ≡ true → d ≡ seal by text) → (m : ℕ) (bytes : List ℕ) (what : Reached) (given : Reply (Result Sent VoteRefusal))
+    → Replies (SaysVote r accepts m bytes) what given → vote_stated m given ≡ map (sealed_by seal m) (stated_in r (votes bytes) what)
 unfolding stated
-vote_states r accepts seal exact m bytes xs ys what given is y =
-    y
-    ∙ ap (λ (new : List Said). xs ++ new) (vote_made accepts seal exact m (vote_answer r is.before bytes) given is.says.answer)
-    ∙ sym (ap (λ a. xs ++ map (sealed_by seal m) (voted_statement a)) (vote_is accepts m (vote_answer r is.before bytes) given is.says.answer is.says.ended))
-    ∙ sym (ap (λ x. xs ++ map (sealed_by seal m) (stated_in r (votes bytes) x)) is.is)
+vote_states r accepts seal exact m bytes what reply.Down is = sym (ap (λ x. map (sealed_by seal m) (stated_in r (votes bytes) x)) is)
+vote_states r accepts seal exact m bytes what reply.Stopped is = sym (ap (λ x. map (sealed_by seal m) (stated_in r (votes bytes) x)) is.is)
+vote_states r accepts seal exact m bytes what (reply.Answered given) is =
+    vote_made accepts seal exact m (vote_answer r is.before bytes) given is.says.answer
+    ∙ sym (ap (λ a. map (sealed_by seal m) (voted_statement a)) (vote_is accepts m (vote_answer r is.before bytes) given is.says.answer is.says.ended))
+    ∙ sym (ap (λ x. map (sealed_by seal m) (stated_in r (votes bytes) x)) is.is)
 
 -- nothing is stated when a certificate is held
 pub hold_states : (r : Rules) (m : ℕ) (bytes : List ℕ) (xs : List Said) (what : Reached) → xs ≡ xs ++ map (said_by m) (stated_in r (holds bytes) what)
@@ -155,26 +131,17 @@ hold_is said (Err no_hold.Closed) is e = is
 hold_is said (Err (no_hold.Cert refusal)) is e = is
 hold_is said (Err (no_hold.Fork key first second)) is e = is
 
-pub hold_down : (k : Known) (r : Rules) (bytes : List ℕ) (what : Reached) → what ≡ finds_down → send_text.Down ≡ hold_text_by k r bytes what
-hold_down k r bytes what is = sym (ap (hold_text_by k r bytes) is)
-
-pub hold_stopped : (k : Known) (r : Rules) (bytes : List ℕ) (what : Reached) → HasStopped what → send_text.Stopped ≡ hold_text_by k r bytes what
-hold_stopped k r bytes what is = sym (ap (hold_text_by k r bytes) is.is)
-
-pub hold_said : (k : Known) (r : Rules) (bytes : List ℕ) (what : Reached) (given : Result Bool HoldRefusal) (text : SendText)
-    → HasAnswered (SaysHold r bytes) what given → text ≡ hold_answered (setting_with k) (world_with k) given → text ≡ hold_text_by k r bytes what
-hold_said k r bytes what given text is t =
-    t
-    ∙ sym (ap (hold_answered (setting_with k) (world_with k)) (hold_is (hold_answer r is.before bytes) given is.says.answer is.says.ended))
-    ∙ sym (ap (hold_text_by k r bytes) is.is)
-
-pub hold_text_is : (trust : Trust) (sc : Scene) (m : ℕ) (bytes : List ℕ) → hold_text_by sc.known (rules_in trust.accepts sc) bytes (reached_in (rules_in trust.accepts sc) sc.posts m (holds bytes)) ≡ hold_text_in trust sc m bytes
-hold_text_is trust sc m bytes = go (reached_in (rules_in trust.accepts sc) sc.posts m (holds bytes))
+pub hold_reply : (trust : Trust) (sc : Scene) (m : ℕ) (bytes : List ℕ) (given : Reply (Result Bool HoldRefusal)) → Replies (SaysHold (rules_in trust.accepts sc) bytes) (reached_in (rules_in trust.accepts sc) sc.posts m (holds bytes)) given
+    → hold_replied sc.known given ≡ hold_text_in trust sc m bytes
+hold_reply trust sc m bytes given is = go (reached_in (rules_in trust.accepts sc) sc.posts m (holds bytes)) given is
   where
-    go : (what : Reached) → hold_text_by sc.known (rules_in trust.accepts sc) bytes what ≡ hold_reached (bare_setting trust sc) (bare_world sc) bytes what
-    go finds_down = refl
-    go (stops kept x) = refl
-    go (answers before x) = sym (hold_same (bare_setting trust sc) (bare_world sc) (hold_answer (rules_in trust.accepts sc) before bytes))
+    go : (what : Reached) (given : Reply (Result Bool HoldRefusal)) → Replies (SaysHold (rules_in trust.accepts sc) bytes) what given → hold_replied sc.known given ≡ hold_reached (bare_setting trust sc) (bare_world sc) bytes what
+    go what reply.Down is = sym (ap (hold_reached (bare_setting trust sc) (bare_world sc) bytes) is)
+    go what reply.Stopped is = sym (ap (hold_reached (bare_setting trust sc) (bare_world sc) bytes) is.is)
+    go what (reply.Answered given) is =
+        sym (ap (hold_answered (setting_with sc.known) (world_with sc.known)) (hold_is (hold_answer (rules_in trust.accepts sc) is.before bytes) given is.says.answer is.says.ended))
+        ∙ sym (hold_same (bare_setting trust sc) (bare_world sc) (hold_answer (rules_in trust.accepts sc) is.before bytes))
+        ∙ sym (ap (hold_reached (bare_setting trust sc) (bare_world sc) bytes) is.is)
 
 -- ---- runs
 
@@ -186,59 +153,22 @@ run_is r before (Err no_run.Down) is = is.answer
 run_is r before (Err (no_run.Halted first second)) is = is.answer
 run_is r before (Err no_run.Full) is = is.answer
 
-pub run_down : (k : Known) (r : Rules) (m : ℕ) (what : Reached) (lines : List Line) → what ≡ finds_down → lines ≡ line.Run m run_text.Down ∷ [] → lines ≡ run_lines_by k r m what
-run_down k r m what lines is l = l ∙ sym (ap (run_lines_by k r m) is)
-
-pub run_stopped : (k : Known) (r : Rules) (m : ℕ) (what : Reached) (lines : List Line) → HasStopped what → lines ≡ line.Run m run_text.Stopped ∷ [] → lines ≡ run_lines_by k r m what
-run_stopped k r m what lines is l = l ∙ sym (ap (run_lines_by k r m) is.is)
-
-pub run_said : (k : Known) (r : Rules) (m : ℕ) (what : Reached) (given : Result Ran RunRefusal) (lines : List Line)
-    → HasAnswered (SaysRun r) what given → lines ≡ run_answered (setting_with k) (world_with k) m given → lines ≡ run_lines_by k r m what
-run_said k r m what given lines is l =
-    l
-    ∙ sym (ap (run_answered (setting_with k) (world_with k) m) (run_is r is.before given is.says))
-    ∙ sym (ap (run_lines_by k r m) is.is)
-
-pub run_states : (r : Rules) (m : ℕ) (xs ys : List Said) (what : Reached) (given : Result Ran RunRefusal)
-    → HasAnswered (SaysRun r) what given → ys ≡ xs ++ map (said_by m) (ran_statements given) → ys ≡ xs ++ map (said_by m) (stated_in r runs what)
-unfolding stated
-run_states r m xs ys what given is told =
-    told
-    ∙ sym (ap (λ ss. xs ++ map (said_by m) ss) (ap ran_statements (run_is r is.before given is.says)))
-    ∙ sym (ap (λ x. xs ++ map (said_by m) (stated_in r runs x)) is.is)
-
-pub run_lines_is : (trust : Trust) (sc : Scene) (m : ℕ) → run_lines_by sc.known (rules_in trust.accepts sc) m (reached_in (rules_in trust.accepts sc) sc.posts m runs) ≡ run_reached (bare_setting trust sc) (bare_world sc) m (reached_in (rules_in trust.accepts sc) sc.posts m runs)
-run_lines_is trust sc m = go (reached_in (rules_in trust.accepts sc) sc.posts m runs)
+pub run_reply : (trust : Trust) (sc : Scene) (m : ℕ) (given : Reply (Result Ran RunRefusal)) → Replies (SaysRun (rules_in trust.accepts sc)) (reached_in (rules_in trust.accepts sc) sc.posts m runs) given
+    → run_replied sc.known m given ≡ run_reached (bare_setting trust sc) (bare_world sc) m (reached_in (rules_in trust.accepts sc) sc.posts m runs)
+run_reply trust sc m given is = go (reached_in (rules_in trust.accepts sc) sc.posts m runs) given is
   where
-    go : (what : Reached) → run_lines_by sc.known (rules_in trust.accepts sc) m what ≡ run_reached (bare_setting trust sc) (bare_world sc) m what
-    go finds_down = refl
-    go (stops kept x) = refl
-    go (answers before x) = sym (run_same (bare_setting trust sc) (bare_world sc) m (run_answer (rules_in trust.accepts sc) before))
+    go : (what : Reached) (given : Reply (Result Ran RunRefusal)) → Replies (SaysRun (rules_in trust.accepts sc)) what given → run_replied sc.known m given ≡ run_reached (bare_setting trust sc) (bare_world sc) m what
+    go what reply.Down is = sym (ap (run_reached (bare_setting trust sc) (bare_world sc) m) is)
+    go what reply.Stopped is = sym (ap (run_reached (bare_setting trust sc) (bare_world sc) m) is.is)
+    go what (reply.Answered given) is =
+        sym (ap (run_answered (setting_with sc.known) (world_with sc.known) m) (run_is (rules_in trust.accepts sc) is.before given is.says))
+        ∙ sym (run_same (bare_setting trust sc) (bare_world sc) m (run_answer (rules_in trust.accepts sc) is.before))
+        ∙ sym (ap (run_reached (bare_setting trust sc) (bare_world sc) m) is.is)
 
--- ---- likewise of what a call on a scene answers
-
-ok_then : {A E : Type 0} (P Q : A → Type 0) (result : Result A E) → ((a : A) → P a → Q a) → IfOk result P → IfOk result Q
-ok_then P Q (Ok a) f p = f a p
-ok_then P Q (Err e) f p = tt
-
-pub vote_told : {E : Type 0} (trust : Trust) (v sc : Scene) (m : ℕ) (bytes : List ℕ) (result : Result VoteText E) → v ≡ sc
-    → IfOk result (λ text. text ≡ vote_text_by v.known (rules_in trust.accepts v) bytes (reached_in (rules_in trust.accepts v) v.posts m (votes bytes))) → IfOk result (λ text. text ≡ vote_text_in trust sc m bytes)
-vote_told trust v sc m bytes result same is =
-    subst (λ (x : Scene). IfOk result (λ text. text ≡ vote_text_in trust x m bytes)) same
-    (ok_then (λ text. text ≡ vote_text_by v.known (rules_in trust.accepts v) bytes (reached_in (rules_in trust.accepts v) v.posts m (votes bytes))) (λ text. text ≡ vote_text_in trust v m bytes) result
-    (λ text e. e ∙ vote_text_is trust v m bytes) is)
-
-pub hold_told : {E : Type 0} (trust : Trust) (v sc : Scene) (m : ℕ) (bytes : List ℕ) (result : Result SendText E) → v ≡ sc
-    → IfOk result (λ text. text ≡ hold_text_by v.known (rules_in trust.accepts v) bytes (reached_in (rules_in trust.accepts v) v.posts m (holds bytes))) → IfOk result (λ text. text ≡ hold_text_in trust sc m bytes)
-hold_told trust v sc m bytes result same is =
-    subst (λ (x : Scene). IfOk result (λ text. text ≡ hold_text_in trust x m bytes)) same
-    (ok_then (λ text. text ≡ hold_text_by v.known (rules_in trust.accepts v) bytes (reached_in (rules_in trust.accepts v) v.posts m (holds bytes))) (λ text. text ≡ hold_text_in trust v m bytes) result
-    (λ text e. e ∙ hold_text_is trust v m bytes) is)
-
-pub run_told : {E : Type 0} (trust : Trust) (v sc : Scene) (m workers : ℕ) (result : Result (List Line) E) → v ≡ sc
-    → IfOk result (λ lines. lines ≡ run_lines_by v.known (rules_in trust.accepts v) m (reached_in (rules_in trust.accepts v) v.posts m runs)) → IfOk result (λ lines. lines ≡ lines_in trust sc (event.Run m workers))
-unfolding lines_in
-run_told trust v sc m workers result same is =
-    subst (λ (x : Scene). IfOk result (λ lines. lines ≡ lines_in trust x (event.Run m workers))) same
-    (ok_then (λ lines. lines ≡ run_lines_by v.known (rules_in trust.accepts v) m (reached_in (rules_in trust.accepts v) v.posts m runs)) (λ lines. lines ≡ lines_in trust v (event.Run m workers)) result
-    (λ lines e. e ∙ run_lines_is trust v m) is)
+pub run_states : (r : Rules) (m : ℕ) (what : Reached) (given : Reply (Result Ran RunRefusal)) → Replies (SaysRun r) what given → map (said_by m) (run_stated given) ≡ map (said_by m) (stated_in r runs what)
+unfolding stated
+run_states r m what reply.Down is = sym (ap (λ x. map (said_by m) (stated_in r runs x)) is)
+run_states r m what reply.Stopped is = sym (ap (λ x. map (said_by m) (stated_in r runs x)) is.is)
+run_states r m what (reply.Answered given) is =
+    sym (ap (λ ss. map (said_by m) ss) (ap ran_statements (run_is r is.before given is.says)))
+    ∙ sym (ap (λ x. map (said_by m) (stated_in r runs x)) is.is)

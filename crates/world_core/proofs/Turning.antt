@@ -1,5 +1,5 @@
 -- What a member answers to a turn, and what becomes of the call.
-use Rattle.std.proofs.Common.{◌≡◌, ◌∙◌, ap, sym, refl, ℕ, Bool, List, [], ◌∷◌, ◌++◌, map, append-nil, Option, Some, None, Result, Ok, Err}
+use Rattle.std.proofs.Common.{◌≡◌, ◌∙◌, ap, sym, refl, ℕ, Bool, List, ◌++◌, map, append-nil, Option, Some, None, Result, Ok, Err}
 use Rattle.std.specs.Prelude.{slice_get}
 use Rattle.digest_core.specs.declared.Digest.{Digest}
 use Rattle.protocol_spec.specs.declared.refusals.TurnRefusal.{TurnRefusal}
@@ -8,9 +8,6 @@ use Rattle.journal_core.specs.declared.records.Record.{Record}
 use Rattle.protocol_spec.specs.Chain.Certificates.{Rules}
 use Rattle.protocol_spec.specs.Member.Member.{Member}
 use Rattle.protocol_spec.specs.Member.Calls.{due, turn_answer, turns}
-use Rattle.report_text.specs.declared.lines.Line.{Line}
-use Rattle.report_text.specs.declared.lines.Line.TheVariants as line
-use Rattle.report_text.specs.declared.lines.TurnText.TheVariants as turn_text
 use Rattle.validator_core.specs.Calls.{Turns, turn_ended}
 use Rattle.validator_core.specs.Seats.{answered}
 use Rattle.world_lines.specs.Answers.{member_in}
@@ -18,14 +15,16 @@ use Rattle.world_spec.specs.Setting.{Trust}
 use Rattle.world_spec.specs.World.{Reached, Said, World, answers, finds_down, reached_up, said_by, stated, stops}
 use Rattle.world_spec.specs.Report.{turn_answered, turn_reached}
 use Rattle.world_spec.proofs.LineWorlds.{turn_same}
-use Rattle.world_spec.specs.Known.{Known, world_with}
+use Rattle.world_spec.specs.Known.{world_with}
 use Rattle.world_spec.specs.Seats.{Seated}
 use Rattle.world_spec.specs.Posts.{Post, reached_in, reached_post, reached_standing, stated_in}
 use Rattle.world_spec.specs.Scene.{Scene, bare_setting, bare_world, rules_in}
 use Rattle.world_spec.specs.SceneSteps.{standing_at}
 use Rattle.world_core.specs.Crews.{epoch_of}
-use Rattle.world_core.specs.Epochs.{turn_lines_by}
-use Rattle.world_core.specs.Replies.{HasAnswered, HasStopped, SaysTurn}
+use Rattle.world_core.specs.Epochs.{turn_replied}
+use Rattle.world_core.specs.Replies.{Replies, SaysTurn}
+use Rattle.world_core.specs.declared.reply.Reply.{Reply}
+use Rattle.world_core.specs.declared.reply.Reply.TheVariants as reply
 
 pub epoch_none : (standing : Option Seated) → None ≡ standing → 0 ≡ epoch_of standing
 epoch_none standing is = ap epoch_of is
@@ -68,20 +67,16 @@ epoch_post : (r : Rules) (before : Member) (x : Option Record) (p : Option Post)
 epoch_post r before x None e = absurd (let same : finds_down ≡ answers before x = e in cc)
 epoch_post r before x (Some p) e = epoch_standing r before x p.armed p.standing e
 
-pub turn_down : (k : Known) (r : Rules) (m : ℕ) (what : Reached) (lines : List Line) → what ≡ finds_down → lines ≡ line.Turn m turn_text.Down ∷ [] → lines ≡ turn_lines_by k r m what
-turn_down k r m what lines is l = l ∙ sym (ap (turn_lines_by k r m) is)
-
-pub turn_stopped : (k : Known) (r : Rules) (m : ℕ) (what : Reached) (lines : List Line) → HasStopped what → lines ≡ line.Turn m turn_text.Stopped ∷ [] → lines ≡ turn_lines_by k r m what
-turn_stopped k r m what lines is l = l ∙ sym (ap (turn_lines_by k r m) is.is)
-
-pub turn_said : (k : Known) (r : Rules) (posts : List Post) (m epoch : ℕ) (given : Result (List Digest) TurnRefusal) (lines : List Line)
-    → HasAnswered (SaysTurn r) (reached_in r posts m turns) given → epoch ≡ epoch_of (standing_at (slice_get posts m)) → lines ≡ turn_answered (world_with k) m (member_in epoch) given → lines ≡ turn_lines_by k r m (reached_in r posts m turns)
-turn_said k r posts m epoch given lines is at l =
-    l
-    ∙ ap (λ (n : ℕ). turn_answered (world_with k) m (member_in n) given) (at ∙ epoch_post r is.before is.due (slice_get posts m) is.is)
-    ∙ epoch_alone (world_with k) m is.before given
-    ∙ sym (ap (turn_answered (world_with k) m is.before) (turn_is (turn_answer r is.before) given is.says.answer is.says.ended))
-    ∙ sym (ap (turn_lines_by k r m) is.is)
+pub turn_reply : (trust : Trust) (sc : Scene) (m epoch : ℕ) (given : Reply (Result (List Digest) TurnRefusal)) → epoch ≡ epoch_of (standing_at (slice_get sc.posts m)) → Replies (SaysTurn (rules_in trust.accepts sc)) (reached_in (rules_in trust.accepts sc) sc.posts m turns) given
+    → turn_replied sc.known m epoch given ≡ turn_reached (bare_setting trust sc) (bare_world sc) m (reached_in (rules_in trust.accepts sc) sc.posts m turns)
+turn_reply trust sc m epoch reply.Down at is = sym (ap (turn_reached (bare_setting trust sc) (bare_world sc) m) is)
+turn_reply trust sc m epoch reply.Stopped at is = sym (ap (turn_reached (bare_setting trust sc) (bare_world sc) m) is.is)
+turn_reply trust sc m epoch (reply.Answered given) at is =
+    ap (λ (n : ℕ). turn_answered (world_with sc.known) m (member_in n) given) (at ∙ epoch_post (rules_in trust.accepts sc) is.before is.due (slice_get sc.posts m) is.is)
+    ∙ epoch_alone (world_with sc.known) m is.before given
+    ∙ sym (ap (turn_answered (world_with sc.known) m is.before) (turn_is (turn_answer (rules_in trust.accepts sc) is.before) given is.says.answer is.says.ended))
+    ∙ sym (turn_same (bare_setting trust sc) (bare_world sc) m is.before (turn_answer (rules_in trust.accepts sc) is.before))
+    ∙ sym (ap (turn_reached (bare_setting trust sc) (bare_world sc) m) is.is)
 
 -- nothing is stated
 pub turn_states : (r : Rules) (m : ℕ) (xs : List Said) (what : Reached) → xs ≡ xs ++ map (said_by m) (stated_in r turns what)
@@ -89,11 +84,3 @@ unfolding stated
 turn_states r m xs finds_down = sym (append-nil xs)
 turn_states r m xs (stops kept x) = sym (append-nil xs)
 turn_states r m xs (answers before x) = sym (append-nil xs)
-
-pub turn_lines_is : (trust : Trust) (sc : Scene) (m : ℕ) → turn_lines_by sc.known (rules_in trust.accepts sc) m (reached_in (rules_in trust.accepts sc) sc.posts m turns) ≡ turn_reached (bare_setting trust sc) (bare_world sc) m (reached_in (rules_in trust.accepts sc) sc.posts m turns)
-turn_lines_is trust sc m = go (reached_in (rules_in trust.accepts sc) sc.posts m turns)
-  where
-    go : (what : Reached) → turn_lines_by sc.known (rules_in trust.accepts sc) m what ≡ turn_reached (bare_setting trust sc) (bare_world sc) m what
-    go finds_down = refl
-    go (stops kept x) = refl
-    go (answers before x) = sym (turn_same (bare_setting trust sc) (bare_world sc) m before (turn_answer (rules_in trust.accepts sc) before))

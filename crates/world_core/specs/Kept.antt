@@ -24,15 +24,6 @@ abbrev pub asks_record : Request → Bool
 asks_record (direct call) = may_record call
 asks_record ask = true
 
--- whether a move hands exactly one call to a member, which may append a record
-abbrev pub calls_one : Move → Bool
-calls_one (requests m ask) = asks_record ask
-calls_one mv = false
-
--- whether a line does
-abbrev pub is_call : Event → Bool
-is_call e = calls_one (move_of e)
-
 -- whether a move reads and appends no record
 abbrev pub is_quiet_move : Move → Bool
 is_quiet_move (requests m ask) = not (asks_record ask)

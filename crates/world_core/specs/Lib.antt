@@ -8,6 +8,7 @@ pub mod Kept
 pub mod Restarts
 pub mod Votes
 pub mod Stays
+pub mod Served
 pub mod Sums
 pub mod Sees
 pub mod Epochs

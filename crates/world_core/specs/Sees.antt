@@ -1,28 +1,39 @@
 -- The report's words for entries, in terms of the directory of names alone; and what a `see` line has done so far.
 use Rattle.std.specs.Prelude.{◌≡◌, ◌+◌, ℕ, false, List, [], ◌∷◌, ◌++◌, length, slice_get, Option, None, option_and_then, option_map, Result, Ok, Err, if◌then◌else◌}
 use Rattle.chain_messages.specs.declared.messages.Entry.{Entry}
+use Rattle.chain_messages.specs.declared.messages.Statement.{Statement}
 use Rattle.journal_core.specs.declared.records.Record.{Record}
 use Rattle.outside.specs.Lists.{Journals}
-use Rattle.protocol_spec.specs.Chain.Certificates.{Rules}
 use Rattle.protocol_spec.specs.Member.Member.{Member}
-use Rattle.protocol_spec.specs.Member.Calls.{Call, see_answer}
+use Rattle.protocol_spec.specs.Member.Calls.{Call}
+use Rattle.protocol_spec.specs.declared.answers.Seen.{Seen}
+use Rattle.protocol_spec.specs.declared.refusals.SeeRefusal.{SeeRefusal}
 use Rattle.report_text.specs.declared.lines.Line.{Line}
 use Rattle.report_text.specs.declared.lines.Line.TheVariants as line
 use Rattle.report_text.specs.declared.lines.SeeText.TheVariants as see_text
 use Rattle.report_text.specs.declared.lines.EntryText.TheVariants as entry_text
 use Rattle.world_spec.specs.Setting.{Trust}
-use Rattle.world_spec.specs.World.{Reached, finds_down, stops, answers, entries_at, numbered_call}
+use Rattle.world_spec.specs.World.{built_statements, entries_at, numbered_call}
 use Rattle.world_spec.specs.Report.{Lines, entry_lines}
 use Rattle.world_spec.specs.Known.{Known, setting_staked, world_with}
 use Rattle.world_spec.specs.Posts.{AddsAll, AddsFront, Post}
 use Rattle.world_spec.specs.Scene.{Scene, rules_in}
 use Rattle.world_core.specs.Cuts.{books_in}
+use Rattle.world_core.specs.declared.reply.Reply.{Reply}
+use Rattle.world_core.specs.declared.reply.Reply.TheVariants as reply
 use Rattle.world_spec.specs.SceneSteps.{entries_lines_in, seat_state, sees_left, sees_to, standing_at}
 
-abbrev pub see_lines_by : Known → Rules → ℕ → ℕ → List ℕ → Reached → Lines
-see_lines_by k r m number bytes finds_down = (line.See m see_text.Down ∷ [], false)
-see_lines_by k r m number bytes (stops kept x) = (line.SeeEntry m number entry_text.Stopped ∷ [], false)
-see_lines_by k r m number bytes (answers before x) = entry_lines (setting_staked r.stakes k) (world_with k) m number (see_answer r before number bytes)
+-- by the stakes of the committee
+abbrev pub see_replied : Known → List ℕ → ℕ → ℕ → Reply (Result Seen SeeRefusal) → Lines
+see_replied k stakes m number reply.Down = (line.See m see_text.Down ∷ [], false)
+see_replied k stakes m number reply.Stopped = (line.SeeEntry m number entry_text.Stopped ∷ [], false)
+see_replied k stakes m number (reply.Answered given) = entry_lines (setting_staked stakes k) (world_with k) m number given
+
+-- what a member states by its reply to an entry
+abbrev pub see_stated : Reply (Result Seen SeeRefusal) → List Statement
+see_stated reply.Down = []
+see_stated reply.Stopped = []
+see_stated (reply.Answered given) = built_statements given
 
 -- the next entry of these sequences for a member in this state
 abbrev pub next_for : List (List Entry) → Member → Option Call

@@ -1,5 +1,5 @@
--- The report's words for a call, by what became of it, in terms of the directory of names alone (no whole world).
-use Rattle.std.specs.Prelude.{ℕ, List, [], ◌∷◌, Option, Some, None}
+-- The report's words for a member's reply, in terms of the directory of names alone (no whole world).
+use Rattle.std.specs.Prelude.{ℕ, Bool, List, [], ◌∷◌, Option, Some, None, Result}
 use Rattle.report_text.specs.declared.lines.Line.{Line}
 use Rattle.report_text.specs.declared.lines.Line.TheVariants as line
 use Rattle.report_text.specs.declared.lines.CloseText.{CloseText}
@@ -12,34 +12,48 @@ use Rattle.report_text.specs.declared.lines.VoteText.{VoteText}
 use Rattle.report_text.specs.declared.lines.VoteText.TheVariants as vote_text
 use Rattle.chain_types.specs.Transactions as transactions
 use Rattle.chain_messages.specs.declared.messages.Certificate.{Certificate}
+use Rattle.chain_messages.specs.declared.messages.Statement.{Statement}
 use Rattle.chain_messages.specs.Messages as messages
-use Rattle.protocol_spec.specs.Chain.Certificates.{Rules}
+use Rattle.protocol_spec.specs.declared.answers.Ran.{Ran}
+use Rattle.protocol_spec.specs.declared.answers.Voted.{Voted as Sent}
+use Rattle.protocol_spec.specs.declared.refusals.CloseRefusal.{CloseRefusal}
+use Rattle.protocol_spec.specs.declared.refusals.HoldRefusal.{HoldRefusal}
+use Rattle.protocol_spec.specs.declared.refusals.RunRefusal.{RunRefusal}
+use Rattle.protocol_spec.specs.declared.refusals.VoteRefusal.{VoteRefusal}
 use Rattle.protocol_spec.specs.Member.Member.{live_objects}
-use Rattle.protocol_spec.specs.Member.Calls.{close_answer, hold_answer, run_answer, vote_answer}
-use Rattle.world_spec.specs.World.{Made, Reached, finds_down, stops, answers}
+use Rattle.world_spec.specs.World.{Made, ran_statements}
 use Rattle.world_spec.specs.Report.{close_answered, hold_answered, run_answered, shown, vote_answered}
 use Rattle.world_spec.specs.Known.{Known, setting_with, world_with}
 use Rattle.world_spec.specs.Seats.{Seated}
+use Rattle.world_lines.specs.Answers.{vote_as}
+use Rattle.world_core.specs.declared.reply.Reply.{Reply}
+use Rattle.world_core.specs.declared.reply.Reply.TheVariants as reply
 
-abbrev pub vote_text_by : Known → Rules → List ℕ → Reached → VoteText
-vote_text_by k r bytes finds_down = vote_text.Down
-vote_text_by k r bytes (stops kept x) = vote_text.Stopped
-vote_text_by k r bytes (answers m x) = vote_answered (setting_with k) (world_with k) (vote_answer r m bytes)
+abbrev pub vote_replied : Known → Reply (Result Sent VoteRefusal) → VoteText
+vote_replied k reply.Down = vote_text.Down
+vote_replied k reply.Stopped = vote_text.Stopped
+vote_replied k (reply.Answered given) = vote_answered (setting_with k) (world_with k) (vote_as given)
 
-abbrev pub hold_text_by : Known → Rules → List ℕ → Reached → SendText
-hold_text_by k r bytes finds_down = send_text.Down
-hold_text_by k r bytes (stops kept x) = send_text.Stopped
-hold_text_by k r bytes (answers m x) = hold_answered (setting_with k) (world_with k) (hold_answer r m bytes)
+abbrev pub hold_replied : Known → Reply (Result Bool HoldRefusal) → SendText
+hold_replied k reply.Down = send_text.Down
+hold_replied k reply.Stopped = send_text.Stopped
+hold_replied k (reply.Answered given) = hold_answered (setting_with k) (world_with k) given
 
-abbrev pub close_text_by : Known → Rules → Reached → CloseText
-close_text_by k r finds_down = close_text.Down
-close_text_by k r (stops kept x) = close_text.Stopped
-close_text_by k r (answers m x) = close_answered (world_with k) (close_answer r m)
+abbrev pub close_replied : Known → Reply (Result Bool CloseRefusal) → CloseText
+close_replied k reply.Down = close_text.Down
+close_replied k reply.Stopped = close_text.Stopped
+close_replied k (reply.Answered given) = close_answered (world_with k) given
 
-abbrev pub run_lines_by : Known → Rules → ℕ → Reached → List Line
-run_lines_by k r m finds_down = line.Run m run_text.Down ∷ []
-run_lines_by k r m (stops kept x) = line.Run m run_text.Stopped ∷ []
-run_lines_by k r m (answers before x) = run_answered (setting_with k) (world_with k) m (run_answer r before)
+abbrev pub run_replied : Known → ℕ → Reply (Result Ran RunRefusal) → List Line
+run_replied k m reply.Down = line.Run m run_text.Down ∷ []
+run_replied k m reply.Stopped = line.Run m run_text.Stopped ∷ []
+run_replied k m (reply.Answered given) = run_answered (setting_with k) (world_with k) m given
+
+-- what a member states by its reply to a run
+abbrev pub run_stated : Reply (Result Ran RunRefusal) → List Statement
+run_stated reply.Down = []
+run_stated reply.Stopped = []
+run_stated (reply.Answered given) = ran_statements given
 
 abbrev pub show_by : Known → ℕ → Option Seated → List Line
 show_by k m None = line.Show m show_text.Down ∷ []

@@ -4,6 +4,8 @@ use Rattle.std.specs.Prelude.{ℕ, Bool, false, List, [], ◌∷◌, Option, Som
 use Rattle.protocol_spec.specs.declared.answers.Voted.{Voted as Sent}
 use Rattle.protocol_spec.specs.declared.refusals.VoteRefusal.{VoteRefusal}
 use Rattle.world_spec.specs.World.{Said, said_under}
+use Rattle.world_core.specs.declared.reply.Reply.{Reply}
+use Rattle.world_core.specs.declared.reply.Reply.TheVariants as reply
 
 abbrev pub flag_at : Option Bool → Bool
 flag_at None = false
@@ -13,3 +15,8 @@ flag_at (Some honest) = honest
 abbrev pub vote_under : ℕ → Result Sent VoteRefusal → List Said
 vote_under m (Ok v) = said_under v.sealed.seal m v.sealed.statement ∷ []
 vote_under m (Err refusal) = []
+
+abbrev pub vote_stated : ℕ → Reply (Result Sent VoteRefusal) → List Said
+vote_stated m reply.Down = []
+vote_stated m reply.Stopped = []
+vote_stated m (reply.Answered given) = vote_under m given

@@ -1,42 +1,38 @@
 //! The members of a committee.
 
-ghost use Rattle.std.specs.Prelude.{◌≡◌, ◌<◌, ◌≤◌, ◌^◌, ℕ, [], IfOk, IsErrOf, OnErr, OnOk, Some, is_ok, is_some, option_copied, option_map, length, slice_get, true};
+ghost use Rattle.std.specs.Prelude.{◌≡◌, ◌<◌, ◌≤◌, ◌^◌, ℕ, [], IfOk, IsErrOf, OnErr, Some, is_ok, option_copied, option_map, length, slice_get, true};
 ghost use Rattle.outside.specs.Causes.{Rose};
 ghost use Rattle.outside.specs.Lists.{KeepsJournals};
 ghost use Rattle.world_spec.specs.Terms.{rules_for};
-ghost use Rattle.protocol_spec.specs.Member.Calls.{ack_answer, closes, end_answer, holds, runs, sees, turns, votes};
+ghost use Rattle.protocol_spec.specs.Member.Calls.{ack_answer, end_answer};
 ghost use Rattle.world_spec.specs.Starts.{AreApart, started};
-ghost use Rattle.world_spec.specs.Posts.{armed_at, new_posts, posts_behind, reached_in, record_left};
+ghost use Rattle.world_spec.specs.Posts.{armed_at, new_posts};
 ghost use Rattle.world_spec.specs.SceneSteps.{held_in, says_in, seat_state, standing_at};
 ghost use Rattle.world_core.specs.declared.reply.SeatFault.TheVariants as faults;
 ghost use Rattle.world_core.specs.declared.reply.RestartFault.TheVariants as restart_faults;
-ghost use Rattle.world_core.specs.Crews.{IsAble, IsPlaced, PostsAfter, epoch_of, fallen_at, honest_at, honest_flags, honest_post, shown_of};
-ghost use Rattle.world_core.specs.Replies.{Leaves, Replies, SaysClose, SaysHold, SaysRun, SaysSee, SaysTurn, SaysVote};
+ghost use Rattle.world_core.specs.Crews.{IsPlaced, epoch_of, honest_at, honest_flags, honest_post, shown_of};
+ghost use Rattle.world_core.specs.Served.{KeeperAfter, Served};
 ghost use Rattle.validator_core.specs.Starts.{Starts};
 ghost use Rattle.world_lines.specs.Answers.{stated_as};
 ghost use Rattle.world_spec.specs.Step.{executed_digest};
 ghost use Rattle.world_core.specs.SeatRestarts.{HasBadRecord, Restarted};
 
 use crate::asking::{ask_ack, ask_end};
-use crate::epoch_requests::{CloseRequest, SeeRequest, TurnRequest};
 use crate::reply::{Reply, RestartFault, SeatFault};
-use crate::requests::{Asks, HoldRequest, RunRequest, VoteRequest};
+use crate::requests::Asks;
 use crate::seat::Seat;
 use crate::starts::{records_of, start_new};
 use crate::terms::Terms;
 use chain_messages::Sealed;
 use chain_types::{Object, ObjectKey};
-use dag_pool::OpenGate;
 use digest_core::Digest;
 use outside::{Keeper, OutFault};
-use protocol_spec::{AckRefusal, EndRefusal, SeeRefusal, Seen, TurnRefusal};
+use protocol_spec::{AckRefusal, EndRefusal};
 use quorum_core::{Committee, Sealer};
 use std::alloc::Global;
 use std::marker::Model;
 use std::thread::Threads;
-use validator_core::{
-    CloseRefusal, HoldRefusal, Ran, RunRefusal, StartRefusal, Validator, VoteRefusal, Voted,
-};
+use validator_core::{StartRefusal, Validator};
 use wire_bcs::{OutOfMemory, Seq};
 use world_lines::HeldDigests;
 
@@ -147,8 +143,11 @@ impl Seats {
         seat.arm(kept);
     }
 
-    /// Hands a request to the member, and answers what became of it; `Down` if the member is not there.
-    fn call<R: Threads + Sync, D: Keeper, S: Sealer, Q: Asks>(
+    /// Hands a request to a member, as [`VoteRequest`](crate::requests::VoteRequest). `Down`: the member is down or not there.
+    /// `Stopped`: a stop was armed and a record was due; the member is down, and its record was kept if the stop keeps. Else it
+    /// answered, and its record stands. `KeepFault` comes only if the call leaves a record, running out of memory only if the
+    /// member is up and met no fork. After both the member is down, and its record stands or does not; the other members stay.
+    pub(crate) fn call<R: Threads + Sync, D: Keeper, S: Sealer, Q: Asks>(
         &mut self,
         rt: &R,
         alloc: Global,
@@ -158,203 +157,14 @@ impl Seats {
         request: &Q,
     ) -> Result<Reply<Q::Answer>, SeatFault>
         requires known { length self.old.posts ≤ D.width keeper.old }
-        ensures answer { IfOk result (Replies (Q.says request.now (rules_for self.old.terms (S.accepts sealer.now)) (S.accepts sealer.now) member) (reached_in (rules_for self.old.terms (S.accepts sealer.now)) self.old.posts member (Q.call request.now))) }
-        ensures posts { PostsAfter (rules_for self.old.terms (S.accepts sealer.now)) (Q.call request.now) member self.old.posts self.new.posts result }
-        ensures terms { self.new.terms ≡ self.old.terms }
-        ensures count { length self.new.posts ≡ length self.old.posts }
-        ensures kept { Leaves (D.lists keeper.old) (D.lists keeper.new) member (record_left (reached_in (rules_for self.old.terms (S.accepts sealer.now)) self.old.posts member (Q.call request.now))) result }
-        ensures width { D.width keeper.new ≡ D.width keeper.old }
-        ensures later { D.failed keeper.old ≤ D.failed keeper.new }
-        ensures fault { IsErrOf result faults.KeepFault → Rose (D.failed keeper.old) (D.failed keeper.new) }
-        ensures owed { IsErrOf result faults.KeepFault → is_some (record_left (reached_in (rules_for self.old.terms (S.accepts sealer.now)) self.old.posts member (Q.call request.now))) ≡ true }
-        ensures able { IsErrOf result faults.OutOfMemory → IsAble (standing_at (slice_get self.old.posts member)) }
+        ensures served { Served (Q.says request.now (rules_for self.old.terms (S.accepts sealer.now)) (S.accepts sealer.now) member) (rules_for self.old.terms (S.accepts sealer.now)) (Q.call request.now) member self.old self.new (D.lists keeper.old) (D.lists keeper.new) result }
+        ensures keeper { KeeperAfter (D.width keeper.old) (D.width keeper.new) (D.failed keeper.old) (D.failed keeper.new) (IsErrOf result faults.KeepFault) }
     {
         if member as usize >= self.seats.len() {
             return Ok(Reply::Down);
         }
         let seat = &mut self.seats[member as usize];
         seat.call(rt, alloc, keeper, sealer, &self.terms, member, request)
-    }
-
-    /// Asks a member for its vote for the transaction that the bytes encode (Sui Lutris). `Down`: the member is
-    /// down or not there. `Stopped`: a stop was armed and a record was due; the member is down, and its record was
-    /// kept if the stop keeps. Else it answered, and its record stands. `KeepFault` comes only if the call leaves a record,
-    /// running out of memory only if the member is up and met no fork. After both the member is down, and its record stands
-    /// or does not; the other members stay.
-    #[tactic(auto, using(crate::proofs::Calling::on_ok, crate::proofs::Calling::on_err))]
-    pub fn vote<R: Threads + Sync, D: Keeper, S: Sealer>(
-        &mut self,
-        rt: &R,
-        alloc: Global,
-        keeper: &mut D,
-        sealer: &S,
-        member: u32,
-        bytes: &[u8],
-    ) -> Result<Reply<Result<Voted, VoteRefusal>>, SeatFault>
-        requires known { length self.old.posts ≤ D.width keeper.old }
-        ensures answer { IfOk result (Replies (SaysVote (rules_for self.old.terms (S.accepts sealer.now)) (S.accepts sealer.now) member bytes.now) (reached_in (rules_for self.old.terms (S.accepts sealer.now)) self.old.posts member (votes bytes.now))) }
-        ensures posts { OnOk result (self.new.posts ≡ posts_behind (rules_for self.old.terms (S.accepts sealer.now)) self.old.posts member (votes bytes.now)) }
-        ensures fallen { OnErr result (self.new.posts ≡ fallen_at self.old.posts member) }
-        ensures terms { self.new.terms ≡ self.old.terms }
-        ensures count { length self.new.posts ≡ length self.old.posts }
-        ensures kept { Leaves (D.lists keeper.old) (D.lists keeper.new) member (record_left (reached_in (rules_for self.old.terms (S.accepts sealer.now)) self.old.posts member (votes bytes.now))) result }
-        ensures width { D.width keeper.new ≡ D.width keeper.old }
-        ensures later { D.failed keeper.old ≤ D.failed keeper.new }
-        ensures fault { IsErrOf result faults.KeepFault → Rose (D.failed keeper.old) (D.failed keeper.new) }
-        ensures owed { IsErrOf result faults.KeepFault → is_some (record_left (reached_in (rules_for self.old.terms (S.accepts sealer.now)) self.old.posts member (votes bytes.now))) ≡ true }
-        ensures able { IsErrOf result faults.OutOfMemory → IsAble (standing_at (slice_get self.old.posts member)) }
-    {
-        self.call(rt, alloc, keeper, sealer, member, &VoteRequest { bytes })
-    }
-
-    /// Hands a certificate to a member (Sui Lutris). Replies and refusals are those of [`Seats::vote`].
-    #[tactic(auto, using(crate::proofs::Calling::on_ok, crate::proofs::Calling::on_err))]
-    pub fn hold<R: Threads + Sync, D: Keeper, S: Sealer>(
-        &mut self,
-        rt: &R,
-        alloc: Global,
-        keeper: &mut D,
-        sealer: &S,
-        member: u32,
-        bytes: &[u8],
-    ) -> Result<Reply<Result<bool, HoldRefusal>>, SeatFault>
-        requires known { length self.old.posts ≤ D.width keeper.old }
-        ensures answer { IfOk result (Replies (SaysHold (rules_for self.old.terms (S.accepts sealer.now)) bytes.now) (reached_in (rules_for self.old.terms (S.accepts sealer.now)) self.old.posts member (holds bytes.now))) }
-        ensures posts { OnOk result (self.new.posts ≡ posts_behind (rules_for self.old.terms (S.accepts sealer.now)) self.old.posts member (holds bytes.now)) }
-        ensures fallen { OnErr result (self.new.posts ≡ fallen_at self.old.posts member) }
-        ensures terms { self.new.terms ≡ self.old.terms }
-        ensures count { length self.new.posts ≡ length self.old.posts }
-        ensures kept { Leaves (D.lists keeper.old) (D.lists keeper.new) member (record_left (reached_in (rules_for self.old.terms (S.accepts sealer.now)) self.old.posts member (holds bytes.now))) result }
-        ensures width { D.width keeper.new ≡ D.width keeper.old }
-        ensures later { D.failed keeper.old ≤ D.failed keeper.new }
-        ensures fault { IsErrOf result faults.KeepFault → Rose (D.failed keeper.old) (D.failed keeper.new) }
-        ensures owed { IsErrOf result faults.KeepFault → is_some (record_left (reached_in (rules_for self.old.terms (S.accepts sealer.now)) self.old.posts member (holds bytes.now))) ≡ true }
-        ensures able { IsErrOf result faults.OutOfMemory → IsAble (standing_at (slice_get self.old.posts member)) }
-    {
-        self.call(rt, alloc, keeper, sealer, member, &HoldRequest { bytes })
-    }
-
-    /// Lets a member run what it holds, by 1 to 16 workers (Sui Lutris). The seals play no part in it. Replies and
-    /// refusals are those of [`Seats::vote`].
-    #[tactic(auto, using(crate::proofs::Calling::on_ok, crate::proofs::Calling::on_err))]
-    pub fn run<R: Threads + Sync, D: Keeper, S: Sealer>(
-        &mut self,
-        rt: &R,
-        alloc: Global,
-        keeper: &mut D,
-        sealer: &S,
-        member: u32,
-        workers: u32,
-    ) -> Result<Reply<Result<Ran, RunRefusal>>, SeatFault>
-        requires known { length self.old.posts ≤ D.width keeper.old }
-        requires workers { (0 < workers) × (workers ≤ 16) }
-        ensures answer { IfOk result (Replies (SaysRun (rules_for self.old.terms (S.accepts sealer.now))) (reached_in (rules_for self.old.terms (S.accepts sealer.now)) self.old.posts member runs)) }
-        ensures posts { OnOk result (self.new.posts ≡ posts_behind (rules_for self.old.terms (S.accepts sealer.now)) self.old.posts member runs) }
-        ensures fallen { OnErr result (self.new.posts ≡ fallen_at self.old.posts member) }
-        ensures terms { self.new.terms ≡ self.old.terms }
-        ensures count { length self.new.posts ≡ length self.old.posts }
-        ensures kept { Leaves (D.lists keeper.old) (D.lists keeper.new) member (record_left (reached_in (rules_for self.old.terms (S.accepts sealer.now)) self.old.posts member runs)) result }
-        ensures width { D.width keeper.new ≡ D.width keeper.old }
-        ensures later { D.failed keeper.old ≤ D.failed keeper.new }
-        ensures fault { IsErrOf result faults.KeepFault → Rose (D.failed keeper.old) (D.failed keeper.new) }
-        ensures owed { IsErrOf result faults.KeepFault → is_some (record_left (reached_in (rules_for self.old.terms (S.accepts sealer.now)) self.old.posts member runs)) ≡ true }
-        ensures able { IsErrOf result faults.OutOfMemory → IsAble (standing_at (slice_get self.old.posts member)) }
-    {
-        let request = RunRequest {
-            workers,
-            gate: OpenGate,
-        };
-        self.call(rt, alloc, keeper, sealer, member, &request)
-    }
-
-    /// Hands a member the entry of this number of its sequence (Sui Lutris). Replies and refusals are those of
-    /// [`Seats::vote`].
-    #[tactic(auto, using(crate::proofs::Calling::on_ok, crate::proofs::Calling::on_err))]
-    pub fn see<R: Threads + Sync, D: Keeper, S: Sealer>(
-        &mut self,
-        rt: &R,
-        alloc: Global,
-        keeper: &mut D,
-        sealer: &S,
-        member: u32,
-        number: u64,
-        bytes: &[u8],
-    ) -> Result<Reply<Result<Seen, SeeRefusal>>, SeatFault>
-        requires known { length self.old.posts ≤ D.width keeper.old }
-        ensures answer { IfOk result (Replies (SaysSee (rules_for self.old.terms (S.accepts sealer.now)) number bytes.now) (reached_in (rules_for self.old.terms (S.accepts sealer.now)) self.old.posts member (sees number bytes.now))) }
-        ensures posts { OnOk result (self.new.posts ≡ posts_behind (rules_for self.old.terms (S.accepts sealer.now)) self.old.posts member (sees number bytes.now)) }
-        ensures fallen { OnErr result (self.new.posts ≡ fallen_at self.old.posts member) }
-        ensures terms { self.new.terms ≡ self.old.terms }
-        ensures count { length self.new.posts ≡ length self.old.posts }
-        ensures kept { Leaves (D.lists keeper.old) (D.lists keeper.new) member (record_left (reached_in (rules_for self.old.terms (S.accepts sealer.now)) self.old.posts member (sees number bytes.now))) result }
-        ensures width { D.width keeper.new ≡ D.width keeper.old }
-        ensures later { D.failed keeper.old ≤ D.failed keeper.new }
-        ensures fault { IsErrOf result faults.KeepFault → Rose (D.failed keeper.old) (D.failed keeper.new) }
-        ensures owed { IsErrOf result faults.KeepFault → is_some (record_left (reached_in (rules_for self.old.terms (S.accepts sealer.now)) self.old.posts member (sees number bytes.now))) ≡ true }
-        ensures able { IsErrOf result faults.OutOfMemory → IsAble (standing_at (slice_get self.old.posts member)) }
-    {
-        self.call(
-            rt,
-            alloc,
-            keeper,
-            sealer,
-            member,
-            &SeeRequest { number, bytes },
-        )
-    }
-
-    /// Closes the epoch of a member (epoch change of Sui Lutris). The seals play no part in it. Replies and refusals are
-    /// those of [`Seats::vote`].
-    #[tactic(auto, using(crate::proofs::Calling::on_ok, crate::proofs::Calling::on_err))]
-    pub fn close<R: Threads + Sync, D: Keeper, S: Sealer>(
-        &mut self,
-        rt: &R,
-        alloc: Global,
-        keeper: &mut D,
-        sealer: &S,
-        member: u32,
-    ) -> Result<Reply<Result<bool, CloseRefusal>>, SeatFault>
-        requires known { length self.old.posts ≤ D.width keeper.old }
-        ensures answer { IfOk result (Replies (SaysClose (rules_for self.old.terms (S.accepts sealer.now))) (reached_in (rules_for self.old.terms (S.accepts sealer.now)) self.old.posts member closes)) }
-        ensures posts { OnOk result (self.new.posts ≡ posts_behind (rules_for self.old.terms (S.accepts sealer.now)) self.old.posts member closes) }
-        ensures fallen { OnErr result (self.new.posts ≡ fallen_at self.old.posts member) }
-        ensures terms { self.new.terms ≡ self.old.terms }
-        ensures count { length self.new.posts ≡ length self.old.posts }
-        ensures kept { Leaves (D.lists keeper.old) (D.lists keeper.new) member (record_left (reached_in (rules_for self.old.terms (S.accepts sealer.now)) self.old.posts member closes)) result }
-        ensures width { D.width keeper.new ≡ D.width keeper.old }
-        ensures later { D.failed keeper.old ≤ D.failed keeper.new }
-        ensures fault { IsErrOf result faults.KeepFault → Rose (D.failed keeper.old) (D.failed keeper.new) }
-        ensures owed { IsErrOf result faults.KeepFault → is_some (record_left (reached_in (rules_for self.old.terms (S.accepts sealer.now)) self.old.posts member closes)) ≡ true }
-        ensures able { IsErrOf result faults.OutOfMemory → IsAble (standing_at (slice_get self.old.posts member)) }
-    {
-        self.call(rt, alloc, keeper, sealer, member, &CloseRequest)
-    }
-
-    /// Turns a member to the next epoch (epoch change of Sui Lutris). The seals play no part in it. Replies and refusals
-    /// are those of [`Seats::vote`].
-    #[tactic(auto, using(crate::proofs::Calling::on_ok, crate::proofs::Calling::on_err))]
-    pub fn turn<R: Threads + Sync, D: Keeper, S: Sealer>(
-        &mut self,
-        rt: &R,
-        alloc: Global,
-        keeper: &mut D,
-        sealer: &S,
-        member: u32,
-    ) -> Result<Reply<Result<Seq<Digest>, TurnRefusal>>, SeatFault>
-        requires known { length self.old.posts ≤ D.width keeper.old }
-        ensures answer { IfOk result (Replies (SaysTurn (rules_for self.old.terms (S.accepts sealer.now))) (reached_in (rules_for self.old.terms (S.accepts sealer.now)) self.old.posts member turns)) }
-        ensures posts { OnOk result (self.new.posts ≡ posts_behind (rules_for self.old.terms (S.accepts sealer.now)) self.old.posts member turns) }
-        ensures fallen { OnErr result (self.new.posts ≡ fallen_at self.old.posts member) }
-        ensures terms { self.new.terms ≡ self.old.terms }
-        ensures count { length self.new.posts ≡ length self.old.posts }
-        ensures kept { Leaves (D.lists keeper.old) (D.lists keeper.new) member (record_left (reached_in (rules_for self.old.terms (S.accepts sealer.now)) self.old.posts member turns)) result }
-        ensures width { D.width keeper.new ≡ D.width keeper.old }
-        ensures later { D.failed keeper.old ≤ D.failed keeper.new }
-        ensures fault { IsErrOf result faults.KeepFault → Rose (D.failed keeper.old) (D.failed keeper.new) }
-        ensures owed { IsErrOf result faults.KeepFault → is_some (record_left (reached_in (rules_for self.old.terms (S.accepts sealer.now)) self.old.posts member turns)) ≡ true }
-        ensures able { IsErrOf result faults.OutOfMemory → IsAble (standing_at (slice_get self.old.posts member)) }
-    {
-        self.call(rt, alloc, keeper, sealer, member, &TurnRequest)
     }
 
     /// The epoch of a member that is up; 0 if it is down or not there. Takes no memory.

@@ -6,31 +6,28 @@ ghost use Rattle.protocol_spec.specs.Member.Calls.{sees};
 ghost use Rattle.report_text.specs.declared.lines.Line.TheVariants as line;
 ghost use Rattle.report_text.specs.declared.lines.SeeText.TheVariants as see_text;
 ghost use Rattle.schedule_text.specs.declared.words.Event.TheVariants as events;
-ghost use Rattle.world_spec.specs.Known.{setting_staked, world_with};
-ghost use Rattle.world_spec.specs.Posts.{posts_behind, reached_in, record_left, stated_in};
+ghost use Rattle.world_spec.specs.Known.{world_with};
 ghost use Rattle.world_spec.specs.Scene.{bare_world, rules_in};
 ghost use Rattle.world_spec.specs.SceneSteps.{call_lines_in, called_if, entries_lines_in, left_if, lines_in, next_on, sees_left, sees_to, steps_to, work_of};
-ghost use Rattle.world_spec.specs.Terms.{rules_for};
 ghost use Rattle.world_core.specs.declared.reply.SeatFault.TheVariants as fault;
-ghost use Rattle.world_core.specs.Cuts.{CallCut, EntriesCut, LineCut, NextCut, books_in};
+ghost use Rattle.world_core.specs.Cuts.{EntriesCut, LineCut, NextCut, books_in};
 ghost use Rattle.world_core.specs.Kept.{LeavesAs};
-ghost use Rattle.world_core.specs.Replies.{Leaves};
-ghost use Rattle.world_core.specs.Sees.{LeavesAll, next_by, see_lines_by};
+ghost use Rattle.world_core.specs.Sees.{LeavesAll, next_by, see_replied, see_stated};
 ghost use Rattle.world_core.specs.Stays.{Stays};
 ghost use Rattle.world_core.specs.Trusts.{trust_by};
 ghost use Rattle.world_lines.specs.Pushed.{GrowsToward};
 ghost use Rattle.world_spec.specs.Names.{tx_name};
-ghost use Rattle.world_spec.specs.Report.{entry_lines};
 ghost use Rattle.world_spec.specs.Step.{entries_left};
-ghost use Rattle.world_spec.specs.World.{built_statements, said_by};
+ghost use Rattle.world_spec.specs.World.{said_by};
 
 use crate::calls::told;
+use crate::epoch_requests::SeeRequest;
 use crate::world::World;
 use crate::{Reply, SeatFault, Seats};
 use digest_core::Digest;
 use outside::Keeper;
 use protocol_spec::{SeeRefusal, Seen};
-use quorum_core::{Committee, Sealer};
+use quorum_core::Committee;
 use report_text::{EntryText, Line, SeeText};
 use std::alloc::Global;
 use std::thread::Threads;
@@ -39,30 +36,6 @@ use wire_bcs::{OutOfMemory, Seq};
 use world_lines::{
     ConsensusLog, Directory, MakesSeals, StatementLog, add_entry_lines, one_line, tx_text,
 };
-
-/// Adds the report's lines for a member's answer to an entry, and answers whether the `see` line goes on after it. The
-/// checkpoints that the entry completed are added to what was stated; out of memory: only the first few, or none.
-#[tactic(auto, using(world_lines::proofs::Growing::none_added, crate::proofs::Stated::some_said))]
-fn tell_entry(
-    directory: &Directory,
-    committee: &Committee,
-    said: &mut StatementLog,
-    lines: &mut Seq<Line>,
-    member: u32,
-    number: u64,
-    answer: &Result<Seen, SeeRefusal>,
-) -> Result<bool, OutOfMemory>
-    ensures lines { OnOk result (lines.new ≡ lines.old ++ (entry_lines (setting_staked committee.now directory.now) (world_with directory.now) member number answer.now).0) }
-    ensures goes { IfOk result (λ goes. goes ≡ (entry_lines (setting_staked committee.now directory.now) (world_with directory.now) member number answer.now).1) }
-    ensures said { OnOk result (said.new ≡ said.old ++ map (said_by member) (built_statements answer.now)) }
-    ensures grew { OnErr result (GrowsToward said.old said.new (said.old ++ map (said_by member) (built_statements answer.now))) }
-{
-    let goes = add_entry_lines(directory, committee, lines, member, number, answer)?;
-    if let Ok(seen) = answer {
-        said.say_built(member, seen.built.as_slice())?;
-    }
-    Ok(goes)
-}
 
 /// The line of a member that takes no entry.
 fn see_line(alloc: Global, member: u32, text: SeeText) -> Result<Seq<Line>, SeatFault>
@@ -74,74 +47,54 @@ fn see_line(alloc: Global, member: u32, text: SeeText) -> Result<Seq<Line>, Seat
 }
 
 /// Adds the line after which the `see` line ends: always answers false.
-fn add_last(lines: &mut Seq<Line>, line: Line) -> Result<bool, SeatFault>
+fn add_last(lines: &mut Seq<Line>, line: Line) -> Result<bool, OutOfMemory>
     ensures lines { OnOk result (lines.new ≡ lines.old ++ line ∷ []) }
     ensures goes { IfOk result (λ goes. goes ≡ false) }
-    ensures fault { IsErrOf result fault.KeepFault → ⊥ }
 {
-    match lines.push(line) {
-        Ok(()) => Ok(false),
-        Err(OutOfMemory) => Err(SeatFault::OutOfMemory),
-    }
+    lines.push(line)?;
+    Ok(false)
 }
 
-/// Hands a member the entry of this number, adds its lines, and says whether the line goes on after it.
-#[tactic(auto, using(crate::proofs::SeeTexts::see_down, crate::proofs::SeeTexts::down_ends, crate::proofs::SeeTexts::see_stopped, crate::proofs::SeeTexts::stopped_ends, crate::proofs::SeeTexts::see_said, crate::proofs::SeeTexts::said_goes, crate::proofs::SeeTexts::see_states, crate::proofs::Texts::down_states, crate::proofs::Texts::stopped_states, crate::proofs::Cuts::call_ended))]
-fn see<R: Threads + Sync, D: Keeper, S: Sealer>(
-    rt: &R,
-    seats: &mut Seats,
-    said: &mut StatementLog,
+/// Adds the report's lines for a member's reply to an entry, and answers whether the `see` line goes on after it. The
+/// checkpoints that the entry completed are added to what was stated; out of memory: only the first few, or none.
+#[tactic(auto, using(world_lines::proofs::Growing::none_added, crate::proofs::Stated::some_said))]
+fn tell_entry(
     directory: &Directory,
-    keeper: &mut D,
-    sealer: &S,
+    committee: &Committee,
+    said: &mut StatementLog,
     lines: &mut Seq<Line>,
     member: u32,
     number: u64,
-    bytes: &[u8],
-) -> Result<bool, SeatFault>
-    requires known { length seats.old.posts ≤ D.width keeper.old }
-    ensures lines { OnOk result (lines.new ≡ lines.old ++ (see_lines_by directory.now (rules_for seats.old.terms (S.accepts sealer.now)) member number bytes.now (reached_in (rules_for seats.old.terms (S.accepts sealer.now)) seats.old.posts member (sees number bytes.now))).0) }
-    ensures goes { IfOk result (λ goes. goes ≡ (see_lines_by directory.now (rules_for seats.old.terms (S.accepts sealer.now)) member number bytes.now (reached_in (rules_for seats.old.terms (S.accepts sealer.now)) seats.old.posts member (sees number bytes.now))).1) }
-    ensures said { OnOk result (said.new ≡ said.old ++ map (said_by member) (stated_in (rules_for seats.old.terms (S.accepts sealer.now)) (sees number bytes.now) (reached_in (rules_for seats.old.terms (S.accepts sealer.now)) seats.old.posts member (sees number bytes.now)))) }
-    ensures grew { OnErr result (GrowsToward said.old said.new (said.old ++ map (said_by member) (stated_in (rules_for seats.old.terms (S.accepts sealer.now)) (sees number bytes.now) (reached_in (rules_for seats.old.terms (S.accepts sealer.now)) seats.old.posts member (sees number bytes.now))))) }
-    ensures posts { OnOk result (seats.new.posts ≡ posts_behind (rules_for seats.old.terms (S.accepts sealer.now)) seats.old.posts member (sees number bytes.now)) }
-    ensures terms { seats.new.terms ≡ seats.old.terms }
-    ensures count { length seats.new.posts ≡ length seats.old.posts }
-    ensures kept { Leaves (D.lists keeper.old) (D.lists keeper.new) member (record_left (reached_in (rules_for seats.old.terms (S.accepts sealer.now)) seats.old.posts member (sees number bytes.now))) result }
-    ensures cut { OnErr result (CallCut (rules_for seats.old.terms (S.accepts sealer.now)) member (sees number bytes.now) seats.old.posts seats.new.posts (D.lists keeper.old) (D.lists keeper.new)) }
-    ensures width { D.width keeper.new ≡ D.width keeper.old }
-    ensures later { D.failed keeper.old ≤ D.failed keeper.new }
-    ensures fault { IsErrOf result fault.KeepFault → Rose (D.failed keeper.old) (D.failed keeper.new) }
+    reply: &Reply<Result<Seen, SeeRefusal>>,
+) -> Result<bool, OutOfMemory>
+    ensures lines { OnOk result (lines.new ≡ lines.old ++ (see_replied directory.now committee.now member number reply.now).0) }
+    ensures goes { IfOk result (λ goes. goes ≡ (see_replied directory.now committee.now member number reply.now).1) }
+    ensures said { OnOk result (said.new ≡ said.old ++ map (said_by member) (see_stated reply.now)) }
+    ensures grew { OnErr result (GrowsToward said.old said.new (said.old ++ map (said_by member) (see_stated reply.now))) }
 {
-    let alloc = directory.allocator();
-    let reply = match seats.see(rt, alloc, keeper, sealer, member, number, bytes) {
-        Ok(reply) => reply,
-        Err(fault) => return Err(fault),
-    };
-    match reply {
-        Reply::Down => add_last(
-            lines,
-            Line::See {
-                member: member as u64,
-                text: SeeText::Down,
-            },
-        ),
-        Reply::Stopped => add_last(
-            lines,
-            Line::SeeEntry {
-                member: member as u64,
-                entry: number,
-                text: EntryText::Stopped,
-            },
-        ),
-        Reply::Answered(answer) => {
-            let committee = seats.committee();
-            match tell_entry(directory, committee, said, lines, member, number, &answer) {
-                Ok(goes) => Ok(goes),
-                Err(OutOfMemory) => Err(SeatFault::OutOfMemory),
-            }
+    let answer = match reply {
+        Reply::Down => {
+            let text = SeeText::Down;
+            let member = member as u64;
+            return add_last(lines, Line::See { member, text });
         }
+        Reply::Stopped => {
+            let text = EntryText::Stopped;
+            let (member, entry) = (member as u64, number);
+            let line = Line::SeeEntry {
+                member,
+                entry,
+                text,
+            };
+            return add_last(lines, line);
+        }
+        Reply::Answered(answer) => answer,
+    };
+    let goes = add_entry_lines(directory, committee, lines, member, number, answer)?;
+    if let Ok(seen) = answer {
+        said.say_built(member, seen.built.as_slice())?;
     }
+    Ok(goes)
 }
 
 /// The next entry of a member that is up, by its number and encoded; none exactly if there is none.
@@ -189,18 +142,28 @@ impl World {
         let Some((number, bytes)) = next_entry(&self.seats, &self.order, member) else {
             return Ok(false);
         };
-        see(
-            rt,
-            &mut self.seats,
-            &mut self.said,
+        let bytes = bytes.as_slice();
+        let request = SeeRequest { number, bytes };
+        let reply = match self
+            .seats
+            .call(rt, self.alloc, keeper, sealer, member, &request)
+        {
+            Ok(reply) => reply,
+            Err(fault) => return Err(fault),
+        };
+        let committee = self.seats.committee();
+        match tell_entry(
             &self.directory,
-            keeper,
-            sealer,
+            committee,
+            &mut self.said,
             lines,
             member,
             number,
-            bytes.as_slice(),
-        )
+            &reply,
+        ) {
+            Ok(goes) => Ok(goes),
+            Err(OutOfMemory) => Err(SeatFault::OutOfMemory),
+        }
     }
 
     /// Hands a member this many entries, one after the other, up to the first after which nothing goes on: adds their

@@ -1,39 +1,43 @@
-use Rattle.protocol_spec.specs.Member.Calls.{votes}
-use Rattle.world_spec.specs.Scene.{rules_in, Scene}
-use Rattle.world_spec.specs.SceneSteps.{asks, work_of, voted_scene, steps_to}
-use Rattle.world_core.proofs.Cuts.{call_ended_on}
-use Rattle.std.proofs.Common.{List, OnErr, subst, ℕ, ◌∙◌, ap}
-use Rattle.world_core.specs.Cuts.{LineCut}
-use Rattle.world_core.specs.Trusts.{trust_by}
-use Rattle.world_core.proofs.Stated.{all_said_on, unsaid}
+use Rattle.std.proofs.Common.{◌≡◌, ◌∙◌, ap, refl, sym, subst, append-nil, List, [], ◌∷◌, ◌++◌, map, ℕ, Some, None, Result, Ok, Err, option_map}
+use Rattle.report_text.specs.declared.lines.Line.{Line}
+use Rattle.report_text.specs.declared.lines.Line.TheVariants as line
 use Rattle.schedule_text.specs.declared.words.Event.TheVariants as events
+use Rattle.world_spec.specs.Scene.{Scene, bare_world, rules_in}
+use Rattle.world_spec.specs.SceneSteps.{lines_in, steps_to, work_of}
+use Rattle.world_spec.specs.Posts.{reached_in}
+use Rattle.world_spec.specs.World.{Said, said_by}
+use Rattle.world_core.specs.Trusts.{trust_by}
+use Rattle.world_core.specs.declared.reply.SeatFault.{SeatFault}
+use Rattle.world_core.specs.declared.reply.SeatFault.TheVariants as seat_fault
+use Rattle.world_core.proofs.Serving.{keeper_err, keeper_none, keeper_same, line_done, line_failed, line_idle, line_told, line_unmade, line_untold, memory_none, ok_none}
+use Rattle.protocol_spec.specs.Member.Calls.{votes}
+use Rattle.world_spec.specs.SceneSteps.{asks, vote_text_in}
+use Rattle.world_core.proofs.Texts.{vote_reply, vote_states}
 use Rattle.world_core.proofs.world.World.raw_vote.Goals as goal
 
-pub returns-in-Err-clause-cut : goal.returns-in-Err-clause-cut
-unfolding work_of
-returns-in-Err-clause-cut g c =
-    subst (λ (b : List ℕ). LineCut (rules_in (g.S.Checker.accepts c.args.sealer.now) c.args.self.now) c.args.self.now (asks c.args.member (votes b)) c.ask.new.self.posts (g.D.Keeper.lists c.args.keeper.now) (g.D.Keeper.lists c.ask.new.keeper)) c.as_slice.ensures.value c.in-Err.ensures.cut
+pub returns-in-Err-clause-line : goal.returns-in-Err-clause-line
+unfolding work_of steps_to
+returns-in-Err-clause-line g c =
+    line_failed (trust_by (g.S.MakesSeals.made c.args.sealer.now) (g.S.Checker.accepts c.args.sealer.now)) (let v : Scene = record { terms = c.self.inside.seats.terms; opening = c.self.inside.opening; known = c.self.inside.directory; sequences = c.self.inside.order.sequences; epoch = c.self.inside.order.epoch; said = c.self.inside.said; certs = c.self.inside.certs; posts = c.self.inside.seats.posts } in v) c.args.self.now c.self.view_is (events.RawVote c.args.member c.args.bytes.now) c.args.member (votes c.as_slice.result.now) (ap (λ (b : List ℕ). asks c.args.member (votes b)) (sym c.as_slice.ensures.value)) refl refl (g.D.Keeper.lists c.args.keeper.now) (g.D.Keeper.lists c.call.new.keeper) c.call.new.self c.in-Err.fault c.in-Err.fault c.in-Err.ensures.served
 
-pub returns-clause-cut : goal.returns-clause-cut
-unfolding work_of
-returns-clause-cut g c =
-    subst (λ (b : List ℕ). OnErr c.told.result (LineCut (rules_in (g.S.Checker.accepts c.args.sealer.now) c.args.self.now) c.args.self.now (asks c.args.member (votes b)) c.ask.new.self.posts (g.D.Keeper.lists c.args.keeper.now) (g.D.Keeper.lists c.ask.new.keeper))) c.as_slice.ensures.value
-    (call_ended_on (rules_in (g.S.Checker.accepts c.args.sealer.now) c.args.self.now) c.args.member (votes c.as_slice.result.now) c.args.self.now.posts c.ask.new.self.posts (g.D.Keeper.lists c.args.keeper.now) (g.D.Keeper.lists c.ask.new.keeper) c.told.result (ap (λ (x : Scene). x.posts) c.in-Ok.ensures.world) c.in-Ok.ensures.kept)
+pub returns-in-Err-clause-keeper : goal.returns-in-Err-clause-keeper
+returns-in-Err-clause-keeper g c =
+    keeper_err c.in-Err.fault c.in-Err.ensures.keeper
 
-pub returns-in-Err-clause-books : goal.returns-in-Err-clause-books
-returns-in-Err-clause-books g c =
-    c.in-Err.ensures.books
+pub returns-in_default-clause-line : goal.returns-in_default-clause-line
+unfolding work_of steps_to
+returns-in_default-clause-line g c =
+    line_untold (trust_by (g.S.MakesSeals.made c.args.sealer.now) (g.S.Checker.accepts c.args.sealer.now)) (let v : Scene = record { terms = c.self.inside.seats.terms; opening = c.self.inside.opening; known = c.self.inside.directory; sequences = c.self.inside.order.sequences; epoch = c.self.inside.order.epoch; said = c.self.inside.said; certs = c.self.inside.certs; posts = c.self.inside.seats.posts } in v) c.args.self.now c.self.view_is (events.RawVote c.args.member c.args.bytes.now) c.args.member (votes c.as_slice.result.now) (ap (λ (b : List ℕ). asks c.args.member (votes b)) (sym c.as_slice.ensures.value)) refl refl (g.D.Keeper.lists c.args.keeper.now) (g.D.Keeper.lists c.call.new.keeper) c.call.new.self c.in-Ok.reply c.tell_vote.new.said seat_fault.OutOfMemory c.in-Ok.ensures.served (c.in_default.ensures.unsaid)
 
-pub returns-clause-books : goal.returns-clause-books
-returns-clause-books g c =
-    c.in-Ok.ensures.books
+pub returns-in_default-clause-keeper : goal.returns-in_default-clause-keeper
+returns-in_default-clause-keeper g c =
+    keeper_none memory_none c.in-Ok.ensures.keeper
 
-pub returns-in-Err-clause-said : goal.returns-in-Err-clause-said
-returns-in-Err-clause-said g c =
-    unsaid (trust_by (g.S.MakesSeals.made c.args.sealer.now) (g.S.Checker.accepts c.args.sealer.now)) c.args.self.now (events.RawVote c.args.member c.args.bytes.now) c.ask.new.self.said c.in-Err.ensures.unsaid
+pub returns-clause-line : goal.returns-clause-line
+unfolding work_of steps_to lines_in
+returns-clause-line g c =
+    line_told (trust_by (g.S.MakesSeals.made c.args.sealer.now) (g.S.Checker.accepts c.args.sealer.now)) (let v : Scene = record { terms = c.self.inside.seats.terms; opening = c.self.inside.opening; known = c.self.inside.directory; sequences = c.self.inside.order.sequences; epoch = c.self.inside.order.epoch; said = c.self.inside.said; certs = c.self.inside.certs; posts = c.self.inside.seats.posts } in v) c.args.self.now c.self.view_is (events.RawVote c.args.member c.args.bytes.now) c.args.member (votes c.as_slice.result.now) (ap (λ (b : List ℕ). asks c.args.member (votes b)) (sym c.as_slice.ensures.value)) refl refl (g.D.Keeper.lists c.args.keeper.now) (g.D.Keeper.lists c.call.new.keeper) c.call.new.self c.in-Ok.reply c.tell_vote.new.said (line.RawVote c.args.member c.in-Ok-tell_vote.text ∷ []) c.told.result c.in-Ok.ensures.served (c.in-Ok-tell_vote.ensures.said ∙ ap (λ (xs : List Said). c.self.inside.said ++ xs) (vote_states (rules_in (g.S.Checker.accepts c.args.sealer.now) (let v : Scene = record { terms = c.self.inside.seats.terms; opening = c.self.inside.opening; known = c.self.inside.directory; sequences = c.self.inside.order.sequences; epoch = c.self.inside.order.epoch; said = c.self.inside.said; certs = c.self.inside.certs; posts = c.self.inside.seats.posts } in v)) (g.S.Checker.accepts c.args.sealer.now) (g.S.MakesSeals.made c.args.sealer.now) (g.met.S.MakesSeals.exact c.args.sealer.now) c.args.member c.as_slice.result.now (reached_in (rules_in (g.S.Checker.accepts c.args.sealer.now) (let v : Scene = record { terms = c.self.inside.seats.terms; opening = c.self.inside.opening; known = c.self.inside.directory; sequences = c.self.inside.order.sequences; epoch = c.self.inside.order.epoch; said = c.self.inside.said; certs = c.self.inside.certs; posts = c.self.inside.seats.posts } in v)) c.self.inside.seats.posts c.args.member (votes c.as_slice.result.now)) c.in-Ok.reply c.in-Ok.ensures.served.answer)) (ap (λ t. line.RawVote c.args.member t ∷ []) (c.in-Ok-tell_vote.ensures.text ∙ vote_reply (trust_by (g.S.MakesSeals.made c.args.sealer.now) (g.S.Checker.accepts c.args.sealer.now)) (let v : Scene = record { terms = c.self.inside.seats.terms; opening = c.self.inside.opening; known = c.self.inside.directory; sequences = c.self.inside.order.sequences; epoch = c.self.inside.order.epoch; said = c.self.inside.said; certs = c.self.inside.certs; posts = c.self.inside.seats.posts } in v) c.args.member c.as_slice.result.now c.in-Ok.reply c.in-Ok.ensures.served.answer ∙ ap (λ (b : List ℕ). vote_text_in (trust_by (g.S.MakesSeals.made c.args.sealer.now) (g.S.Checker.accepts c.args.sealer.now)) (let v : Scene = record { terms = c.self.inside.seats.terms; opening = c.self.inside.opening; known = c.self.inside.directory; sequences = c.self.inside.order.sequences; epoch = c.self.inside.order.epoch; said = c.self.inside.said; certs = c.self.inside.certs; posts = c.self.inside.seats.posts } in v) c.args.member b) c.as_slice.ensures.value)) c.told.ensures.lines
 
-pub returns-clause-said : goal.returns-clause-said
-unfolding steps_to
-returns-clause-said g c =
-    all_said_on (trust_by (g.S.MakesSeals.made c.args.sealer.now) (g.S.Checker.accepts c.args.sealer.now)) c.args.self.now (events.RawVote c.args.member c.args.bytes.now) c.ask.new.self.said c.told.result
-    (ap (λ (x : Scene). x.said) (c.in-Ok.ensures.world ∙ ap (λ (b : List ℕ). voted_scene (g.S.MakesSeals.made c.args.sealer.now) (rules_in (g.S.Checker.accepts c.args.sealer.now) c.args.self.now) c.args.self.now c.args.member b) c.as_slice.ensures.value))
+pub returns-clause-keeper : goal.returns-clause-keeper
+returns-clause-keeper g c =
+    keeper_none c.told.ensures.fault c.in-Ok.ensures.keeper

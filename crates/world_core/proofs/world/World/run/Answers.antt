@@ -1,24 +1,45 @@
-use Rattle.world_spec.specs.Scene.{Scene}
+use Rattle.std.proofs.Common.{◌≡◌, ◌∙◌, ap, refl, sym, subst, append-nil, List, [], ◌∷◌, ◌++◌, map, ℕ, Some, None, Result, Ok, Err, option_map}
+use Rattle.report_text.specs.declared.lines.Line.{Line}
+use Rattle.report_text.specs.declared.lines.Line.TheVariants as line
+use Rattle.schedule_text.specs.declared.words.Event.TheVariants as events
+use Rattle.world_spec.specs.Scene.{Scene, bare_world, rules_in}
+use Rattle.world_spec.specs.SceneSteps.{lines_in, steps_to, work_of}
+use Rattle.world_spec.specs.Posts.{reached_in}
+use Rattle.world_spec.specs.World.{Said, said_by}
 use Rattle.world_core.specs.Trusts.{trust_by}
-use Rattle.world_core.proofs.Texts.{run_told}
+use Rattle.world_core.specs.declared.reply.SeatFault.{SeatFault}
+use Rattle.world_core.specs.declared.reply.SeatFault.TheVariants as seat_fault
+use Rattle.world_core.proofs.Serving.{keeper_err, keeper_none, keeper_same, line_done, line_failed, line_idle, line_told, line_unmade, line_untold, memory_none, ok_none}
 use Rattle.protocol_spec.specs.Member.Calls.{runs}
-use Rattle.world_core.proofs.Cuts.{books_seen, cut_seen}
-use Rattle.world_spec.specs.SceneSteps.{work_of}
-use Rattle.world_core.proofs.Stated.{run_grown}
+use Rattle.world_spec.specs.Posts.{stated_in}
+use Rattle.world_core.specs.Texts.{run_replied, run_stated}
+use Rattle.world_core.proofs.Stated.{some_said}
+use Rattle.world_core.proofs.Texts.{run_reply, run_states}
 use Rattle.world_core.proofs.world.World.run.Goals as goal
 
-pub returns-clause-lines : goal.returns-clause-lines
-returns-clause-lines g c = run_told (trust_by (g.S.MakesSeals.made c.args.sealer.now) (g.S.Checker.accepts c.args.sealer.now)) (let v : Scene = record { terms = c.self.inside.seats.terms; opening = c.self.inside.opening; known = c.self.inside.directory; sequences = c.self.inside.order.sequences; epoch = c.self.inside.order.epoch; said = c.self.inside.said; certs = c.self.inside.certs; posts = c.self.inside.seats.posts } in v) c.args.self.now c.args.member c.args.workers c.run.result c.self.view_is c.run.ensures.lines
+pub returns-in-Err-clause-line : goal.returns-in-Err-clause-line
+unfolding work_of steps_to
+returns-in-Err-clause-line g c =
+    line_failed (trust_by (g.S.MakesSeals.made c.args.sealer.now) (g.S.Checker.accepts c.args.sealer.now)) (let v : Scene = record { terms = c.self.inside.seats.terms; opening = c.self.inside.opening; known = c.self.inside.directory; sequences = c.self.inside.order.sequences; epoch = c.self.inside.order.epoch; said = c.self.inside.said; certs = c.self.inside.certs; posts = c.self.inside.seats.posts } in v) c.args.self.now c.self.view_is (events.Run c.args.member c.args.workers) c.args.member runs refl refl refl (g.D.Keeper.lists c.args.keeper.now) (g.D.Keeper.lists c.call.new.keeper) c.call.new.self c.in-Err.fault c.in-Err.fault c.in-Err.ensures.served
 
-pub returns-clause-cut : goal.returns-clause-cut
-unfolding work_of
-returns-clause-cut g c =
-    cut_seen (trust_by (g.S.MakesSeals.made c.args.sealer.now) (g.S.Checker.accepts c.args.sealer.now)) (let v : Scene = record { terms = c.self.inside.seats.terms; opening = c.self.inside.opening; known = c.self.inside.directory; sequences = c.self.inside.order.sequences; epoch = c.self.inside.order.epoch; said = c.self.inside.said; certs = c.self.inside.certs; posts = c.self.inside.seats.posts } in v) c.args.self.now c.args.member runs c.run.new.seats.posts (g.D.Keeper.lists c.args.keeper.now) (g.D.Keeper.lists c.run.new.keeper) c.run.result c.self.view_is c.run.ensures.cut
+pub returns-in-Err-clause-keeper : goal.returns-in-Err-clause-keeper
+returns-in-Err-clause-keeper g c =
+    keeper_err c.in-Err.fault c.in-Err.ensures.keeper
 
-pub returns-clause-books : goal.returns-clause-books
-returns-clause-books g c =
-    books_seen (let v : Scene = record { terms = c.self.inside.seats.terms; opening = c.self.inside.opening; known = c.self.inside.directory; sequences = c.self.inside.order.sequences; epoch = c.self.inside.order.epoch; said = c.self.inside.said; certs = c.self.inside.certs; posts = c.self.inside.seats.posts } in v) c.args.self.now c.run.new.seats.terms c.run.new.seats.posts c.run.new.said c.self.view_is c.run.ensures.terms c.run.ensures.count
+pub returns-in-Ok-tell_run-clause-line : goal.returns-in-Ok-tell_run-clause-line
+unfolding work_of steps_to lines_in
+returns-in-Ok-tell_run-clause-line g c =
+    line_told (trust_by (g.S.MakesSeals.made c.args.sealer.now) (g.S.Checker.accepts c.args.sealer.now)) (let v : Scene = record { terms = c.self.inside.seats.terms; opening = c.self.inside.opening; known = c.self.inside.directory; sequences = c.self.inside.order.sequences; epoch = c.self.inside.order.epoch; said = c.self.inside.said; certs = c.self.inside.certs; posts = c.self.inside.seats.posts } in v) c.args.self.now c.self.view_is (events.Run c.args.member c.args.workers) c.args.member runs refl refl refl (g.D.Keeper.lists c.args.keeper.now) (g.D.Keeper.lists c.call.new.keeper) c.call.new.self c.in-Ok.reply c.tell_run.new.said (run_replied c.self.inside.directory c.args.member c.in-Ok.reply) (let y : Result (List Line) SeatFault = Ok c.in-Ok-tell_run.lines in y) c.in-Ok.ensures.served (c.in-Ok-tell_run.ensures.said ∙ ap (λ (xs : List Said). c.self.inside.said ++ xs) (run_states (rules_in (g.S.Checker.accepts c.args.sealer.now) (let v : Scene = record { terms = c.self.inside.seats.terms; opening = c.self.inside.opening; known = c.self.inside.directory; sequences = c.self.inside.order.sequences; epoch = c.self.inside.order.epoch; said = c.self.inside.said; certs = c.self.inside.certs; posts = c.self.inside.seats.posts } in v)) c.args.member (reached_in (rules_in (g.S.Checker.accepts c.args.sealer.now) (let v : Scene = record { terms = c.self.inside.seats.terms; opening = c.self.inside.opening; known = c.self.inside.directory; sequences = c.self.inside.order.sequences; epoch = c.self.inside.order.epoch; said = c.self.inside.said; certs = c.self.inside.certs; posts = c.self.inside.seats.posts } in v)) c.self.inside.seats.posts c.args.member runs) c.in-Ok.reply c.in-Ok.ensures.served.answer)) (run_reply (trust_by (g.S.MakesSeals.made c.args.sealer.now) (g.S.Checker.accepts c.args.sealer.now)) (let v : Scene = record { terms = c.self.inside.seats.terms; opening = c.self.inside.opening; known = c.self.inside.directory; sequences = c.self.inside.order.sequences; epoch = c.self.inside.order.epoch; said = c.self.inside.said; certs = c.self.inside.certs; posts = c.self.inside.seats.posts } in v) c.args.member c.in-Ok.reply c.in-Ok.ensures.served.answer) c.in-Ok-tell_run.ensures.lines
 
-pub returns-clause-said : goal.returns-clause-said
-returns-clause-said g c =
-    run_grown (let v : Scene = record { terms = c.self.inside.seats.terms; opening = c.self.inside.opening; known = c.self.inside.directory; sequences = c.self.inside.order.sequences; epoch = c.self.inside.order.epoch; said = c.self.inside.said; certs = c.self.inside.certs; posts = c.self.inside.seats.posts } in v) c.args.self.now c.run.new.said c.run.result c.self.view_is (trust_by (g.S.MakesSeals.made c.args.sealer.now) (g.S.Checker.accepts c.args.sealer.now)) c.args.member c.args.workers c.run.ensures.grew
+pub returns-in-Ok-tell_run-clause-keeper : goal.returns-in-Ok-tell_run-clause-keeper
+returns-in-Ok-tell_run-clause-keeper g c =
+    keeper_none (ok_none c.in-Ok-tell_run.lines) c.in-Ok.ensures.keeper
+
+pub returns-clause-line : goal.returns-clause-line
+unfolding work_of steps_to
+returns-clause-line g c =
+    line_done (trust_by (g.S.MakesSeals.made c.args.sealer.now) (g.S.Checker.accepts c.args.sealer.now)) (let v : Scene = record { terms = c.self.inside.seats.terms; opening = c.self.inside.opening; known = c.self.inside.directory; sequences = c.self.inside.order.sequences; epoch = c.self.inside.order.epoch; said = c.self.inside.said; certs = c.self.inside.certs; posts = c.self.inside.seats.posts } in v) c.args.self.now c.self.view_is (events.Run c.args.member c.args.workers) c.args.member runs refl refl refl (g.D.Keeper.lists c.args.keeper.now) (g.D.Keeper.lists c.call.new.keeper) c.call.new.self c.in-Ok.reply c.tell_run.new.said (lines_in (trust_by (g.S.MakesSeals.made c.args.sealer.now) (g.S.Checker.accepts c.args.sealer.now)) (let v : Scene = record { terms = c.self.inside.seats.terms; opening = c.self.inside.opening; known = c.self.inside.directory; sequences = c.self.inside.order.sequences; epoch = c.self.inside.order.epoch; said = c.self.inside.said; certs = c.self.inside.certs; posts = c.self.inside.seats.posts } in v) (events.Run c.args.member c.args.workers)) (let y : Result (List Line) SeatFault = Err seat_fault.OutOfMemory in y) c.in-Ok.ensures.served tt (some_said c.self.inside.said c.tell_run.new.said (map (said_by c.args.member) (run_stated c.in-Ok.reply)) (map (said_by c.args.member) (stated_in (rules_in (g.S.Checker.accepts c.args.sealer.now) (let v : Scene = record { terms = c.self.inside.seats.terms; opening = c.self.inside.opening; known = c.self.inside.directory; sequences = c.self.inside.order.sequences; epoch = c.self.inside.order.epoch; said = c.self.inside.said; certs = c.self.inside.certs; posts = c.self.inside.seats.posts } in v)) runs (reached_in (rules_in (g.S.Checker.accepts c.args.sealer.now) (let v : Scene = record { terms = c.self.inside.seats.terms; opening = c.self.inside.opening; known = c.self.inside.directory; sequences = c.self.inside.order.sequences; epoch = c.self.inside.order.epoch; said = c.self.inside.said; certs = c.self.inside.certs; posts = c.self.inside.seats.posts } in v)) c.self.inside.seats.posts c.args.member runs))) (sym (run_states (rules_in (g.S.Checker.accepts c.args.sealer.now) (let v : Scene = record { terms = c.self.inside.seats.terms; opening = c.self.inside.opening; known = c.self.inside.directory; sequences = c.self.inside.order.sequences; epoch = c.self.inside.order.epoch; said = c.self.inside.said; certs = c.self.inside.certs; posts = c.self.inside.seats.posts } in v)) c.args.member (reached_in (rules_in (g.S.Checker.accepts c.args.sealer.now) (let v : Scene = record { terms = c.self.inside.seats.terms; opening = c.self.inside.opening; known = c.self.inside.directory; sequences = c.self.inside.order.sequences; epoch = c.self.inside.order.epoch; said = c.self.inside.said; certs = c.self.inside.certs; posts = c.self.inside.seats.posts } in v)) c.self.inside.seats.posts c.args.member runs) c.in-Ok.reply c.in-Ok.ensures.served.answer)) c.in-Err-tell_run.ensures.grew) refl tt
+
+pub returns-clause-keeper : goal.returns-clause-keeper
+returns-clause-keeper g c =
+    keeper_none memory_none c.in-Ok.ensures.keeper

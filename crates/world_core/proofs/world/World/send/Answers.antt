@@ -1,69 +1,73 @@
-use Rattle.std.proofs.Common.{◌≡◌, Some, option_map, ap, refl}
+use Rattle.std.proofs.Common.{◌≡◌, ◌∙◌, ap, refl, sym, subst, append-nil, List, [], ◌∷◌, ◌++◌, map, ℕ, Some, None, Result, Ok, Err, option_map}
+use Rattle.report_text.specs.declared.lines.Line.{Line}
+use Rattle.report_text.specs.declared.lines.Line.TheVariants as line
+use Rattle.report_text.specs.declared.lines.SendText.TheVariants as send_text
 use Rattle.schedule_text.specs.declared.words.Event.TheVariants as events
-use Rattle.world_spec.specs.Scene.{bare_world, rules_in, Scene}
-use Rattle.world_spec.specs.SceneSteps.{work_of, steps_to}
-use Rattle.world_spec.specs.Names.{cert_named}
-use Rattle.world_core.specs.Texts.{spelled_cert}
-use Rattle.world_core.proofs.Cuts.{send_line, send_line_on, unmade_line, unmade_line_on}
+use Rattle.world_spec.specs.Scene.{Scene, bare_world, rules_in}
+use Rattle.world_spec.specs.SceneSteps.{lines_in, steps_to, work_of}
+use Rattle.world_spec.specs.Posts.{reached_in}
+use Rattle.world_spec.specs.World.{Said, said_by}
 use Rattle.world_core.specs.Trusts.{trust_by}
-use Rattle.world_core.proofs.Stated.{all_said_on, unsaid, unsaid_on}
-use Rattle.world_core.proofs.Lines.{send_some_world}
+use Rattle.world_core.specs.declared.reply.SeatFault.{SeatFault}
+use Rattle.world_core.specs.declared.reply.SeatFault.TheVariants as seat_fault
+use Rattle.world_core.proofs.Serving.{keeper_err, keeper_none, keeper_same, line_done, line_failed, line_idle, line_told, line_unmade, line_untold, memory_none, ok_none}
+use Rattle.protocol_spec.specs.Member.Calls.{holds}
+use Rattle.world_spec.specs.Names.{cert_named}
+use Rattle.world_spec.specs.SceneSteps.{hold_text_in}
+use Rattle.world_core.specs.Texts.{spelled_cert}
+use Rattle.world_core.proofs.Lines.{send_none_lines, send_some_lines}
+use Rattle.world_core.proofs.Serving.{held_idle, held_work}
+use Rattle.world_core.proofs.Texts.{hold_reply, hold_states}
 use Rattle.world_core.proofs.world.World.send.Goals as goal
 
-pub returns-in_default-clause-cut : goal.returns-in_default-clause-cut
-returns-in_default-clause-cut g c =
-    unmade_line (rules_in (g.S.Checker.accepts c.args.sealer.now) c.args.self.now) c.args.self.now (work_of c.args.self.now (events.Send c.args.member c.args.tx.now)) (g.D.Keeper.lists c.args.keeper.now)
+pub returns-in_default-clause-line : goal.returns-in_default-clause-line
+returns-in_default-clause-line g c =
+    line_unmade (trust_by (g.S.MakesSeals.made c.args.sealer.now) (g.S.Checker.accepts c.args.sealer.now)) c.args.self.now (events.Send c.args.member c.args.tx.now) (g.D.Keeper.lists c.args.keeper.now) seat_fault.OutOfMemory
 
-pub returns-in_default-spelled_cert-clause-cut : goal.returns-in_default-spelled_cert-clause-cut
-returns-in_default-spelled_cert-clause-cut g c =
-    unmade_line (rules_in (g.S.Checker.accepts c.args.sealer.now) c.args.self.now) c.args.self.now (work_of c.args.self.now (events.Send c.args.member c.args.tx.now)) (g.D.Keeper.lists c.args.keeper.now)
+pub returns-in_default-clause-keeper : goal.returns-in_default-clause-keeper
+returns-in_default-clause-keeper g c =
+    keeper_same (g.D.Keeper.width c.args.keeper.now) (g.D.Keeper.failed c.args.keeper.now) memory_none
 
-pub returns-in_default-bytes-clause-cut : goal.returns-in_default-bytes-clause-cut
-returns-in_default-bytes-clause-cut g c =
-    unmade_line_on (rules_in (g.S.Checker.accepts c.args.sealer.now) c.args.self.now) c.args.self.now (work_of c.args.self.now (events.Send c.args.member c.args.tx.now)) (g.D.Keeper.lists c.args.keeper.now) c.told.result
+pub returns-in_default-spelled_cert-clause-line : goal.returns-in_default-spelled_cert-clause-line
+returns-in_default-spelled_cert-clause-line g c =
+    line_unmade (trust_by (g.S.MakesSeals.made c.args.sealer.now) (g.S.Checker.accepts c.args.sealer.now)) c.args.self.now (events.Send c.args.member c.args.tx.now) (g.D.Keeper.lists c.args.keeper.now) seat_fault.OutOfMemory
 
-pub returns-in-Err-clause-cut : goal.returns-in-Err-clause-cut
-unfolding work_of
-returns-in-Err-clause-cut g c =
-    send_line (rules_in (g.S.Checker.accepts c.args.sealer.now) c.args.self.now) c.args.self.now c.hand.new.self.posts c.args.member (cert_named (bare_world c.args.self.now) c.args.tx.now) c.as_slice-3.result.now (g.D.Keeper.lists c.args.keeper.now) (g.D.Keeper.lists c.hand.new.keeper)
-    (let e : Some c.as_slice-3.result.now ≡ option_map spelled_cert (cert_named (bare_world c.args.self.now) c.args.tx.now) = cc (c.as_slice-3.ensures.value, c.in-Some.is, c.in-Ok-spelled_cert.ensures, c.as_slice-2.ensures.value) in e)
-    c.in-Err.ensures.cut
+pub returns-in_default-spelled_cert-clause-keeper : goal.returns-in_default-spelled_cert-clause-keeper
+returns-in_default-spelled_cert-clause-keeper g c =
+    keeper_same (g.D.Keeper.width c.args.keeper.now) (g.D.Keeper.failed c.args.keeper.now) memory_none
 
-pub returns-clause-cut : goal.returns-clause-cut
-unfolding work_of
-returns-clause-cut g c =
-    send_line_on (rules_in (g.S.Checker.accepts c.args.sealer.now) c.args.self.now) c.args.self.now c.hand.new.self c.args.member (cert_named (bare_world c.args.self.now) c.args.tx.now) c.as_slice-3.result.now (g.D.Keeper.lists c.args.keeper.now) (g.D.Keeper.lists c.hand.new.keeper) c.told-2.result
-    (let e : Some c.as_slice-3.result.now ≡ option_map spelled_cert (cert_named (bare_world c.args.self.now) c.args.tx.now) = cc (c.as_slice-3.ensures.value, c.in-Some.is, c.in-Ok-spelled_cert.ensures, c.as_slice-2.ensures.value) in e)
-    c.in-Ok-hand.ensures.world c.in-Ok-hand.ensures.kept
+pub returns-in_default-bytes-clause-line : goal.returns-in_default-bytes-clause-line
+unfolding work_of steps_to lines_in
+returns-in_default-bytes-clause-line g c =
+    line_idle (trust_by (g.S.MakesSeals.made c.args.sealer.now) (g.S.Checker.accepts c.args.sealer.now)) c.args.self.now (events.Send c.args.member c.args.tx.now) (g.D.Keeper.lists c.args.keeper.now) (line.Send c.args.member c.in-Ok.name send_text.NoCertificate ∷ []) c.told.result (held_idle c.args.member (cert_named (bare_world c.args.self.now) c.args.tx.now) (let e : None ≡ option_map spelled_cert (cert_named (bare_world c.args.self.now) c.args.tx.now) = cc (c.in_default-bytes.is, c.in-Ok-spelled_cert.ensures, c.as_slice-2.ensures.value) in e)) refl (ap (λ n. line.Send c.args.member n send_text.NoCertificate ∷ []) (let n : c.in-Ok.name ≡ c.args.tx.now = c.in-Ok.ensures ∙ c.as_slice.ensures.value in n) ∙ send_none_lines (trust_by (g.S.MakesSeals.made c.args.sealer.now) (g.S.Checker.accepts c.args.sealer.now)) c.args.self.now c.args.member c.args.tx.now (cert_named (bare_world c.args.self.now) c.args.tx.now) (line.Send c.args.member c.args.tx.now send_text.NoCertificate ∷ []) (let e : None ≡ option_map spelled_cert (cert_named (bare_world c.args.self.now) c.args.tx.now) = cc (c.in_default-bytes.is, c.in-Ok-spelled_cert.ensures, c.as_slice-2.ensures.value) in e) refl) c.told.ensures.lines
 
-pub returns-in-Err-clause-books : goal.returns-in-Err-clause-books
-returns-in-Err-clause-books g c =
-    c.in-Err.ensures.books
+pub returns-in_default-bytes-clause-keeper : goal.returns-in_default-bytes-clause-keeper
+returns-in_default-bytes-clause-keeper g c =
+    keeper_same (g.D.Keeper.width c.args.keeper.now) (g.D.Keeper.failed c.args.keeper.now) c.told.ensures.fault
 
-pub returns-clause-books : goal.returns-clause-books
-returns-clause-books g c =
-    c.in-Ok-hand.ensures.books
+pub returns-in-Err-clause-line : goal.returns-in-Err-clause-line
+unfolding work_of steps_to
+returns-in-Err-clause-line g c =
+    line_failed (trust_by (g.S.MakesSeals.made c.args.sealer.now) (g.S.Checker.accepts c.args.sealer.now)) (let v : Scene = record { terms = c.self.inside.seats.terms; opening = c.self.inside.opening; known = c.self.inside.directory; sequences = c.self.inside.order.sequences; epoch = c.self.inside.order.epoch; said = c.self.inside.said; certs = c.self.inside.certs; posts = c.self.inside.seats.posts } in v) c.args.self.now c.self.view_is (events.Send c.args.member c.args.tx.now) c.args.member (holds c.as_slice-3.result.now) (held_work c.args.member (cert_named (bare_world c.args.self.now) c.args.tx.now) c.as_slice-3.result.now (let e : Some c.as_slice-3.result.now ≡ option_map spelled_cert (cert_named (bare_world c.args.self.now) c.args.tx.now) = cc (c.as_slice-3.ensures.value, c.in-Some.is, c.in-Ok-spelled_cert.ensures, c.as_slice-2.ensures.value) in e)) refl refl (g.D.Keeper.lists c.args.keeper.now) (g.D.Keeper.lists c.call.new.keeper) c.call.new.self c.in-Err.fault c.in-Err.fault c.in-Err.ensures.served
 
-pub returns-in_default-clause-said : goal.returns-in_default-clause-said
-returns-in_default-clause-said g c =
-    unsaid (trust_by (g.S.MakesSeals.made c.args.sealer.now) (g.S.Checker.accepts c.args.sealer.now)) c.args.self.now (events.Send c.args.member c.args.tx.now) c.args.self.now.said refl
+pub returns-in-Err-clause-keeper : goal.returns-in-Err-clause-keeper
+returns-in-Err-clause-keeper g c =
+    keeper_err c.in-Err.fault c.in-Err.ensures.keeper
 
-pub returns-in_default-spelled_cert-clause-said : goal.returns-in_default-spelled_cert-clause-said
-returns-in_default-spelled_cert-clause-said g c =
-    unsaid (trust_by (g.S.MakesSeals.made c.args.sealer.now) (g.S.Checker.accepts c.args.sealer.now)) c.args.self.now (events.Send c.args.member c.args.tx.now) c.args.self.now.said refl
+pub returns-in_default-tell_hold-clause-line : goal.returns-in_default-tell_hold-clause-line
+unfolding work_of steps_to
+returns-in_default-tell_hold-clause-line g c =
+    line_untold (trust_by (g.S.MakesSeals.made c.args.sealer.now) (g.S.Checker.accepts c.args.sealer.now)) (let v : Scene = record { terms = c.self.inside.seats.terms; opening = c.self.inside.opening; known = c.self.inside.directory; sequences = c.self.inside.order.sequences; epoch = c.self.inside.order.epoch; said = c.self.inside.said; certs = c.self.inside.certs; posts = c.self.inside.seats.posts } in v) c.args.self.now c.self.view_is (events.Send c.args.member c.args.tx.now) c.args.member (holds c.as_slice-3.result.now) (held_work c.args.member (cert_named (bare_world c.args.self.now) c.args.tx.now) c.as_slice-3.result.now (let e : Some c.as_slice-3.result.now ≡ option_map spelled_cert (cert_named (bare_world c.args.self.now) c.args.tx.now) = cc (c.as_slice-3.ensures.value, c.in-Some.is, c.in-Ok-spelled_cert.ensures, c.as_slice-2.ensures.value) in e)) refl refl (g.D.Keeper.lists c.args.keeper.now) (g.D.Keeper.lists c.call.new.keeper) c.call.new.self c.in-Ok-call.reply c.self.inside.said seat_fault.OutOfMemory c.in-Ok-call.ensures.served (refl)
 
-pub returns-in_default-bytes-clause-said : goal.returns-in_default-bytes-clause-said
-returns-in_default-bytes-clause-said g c =
-    unsaid_on (trust_by (g.S.MakesSeals.made c.args.sealer.now) (g.S.Checker.accepts c.args.sealer.now)) c.args.self.now (events.Send c.args.member c.args.tx.now) c.args.self.now.said c.told.result refl
+pub returns-in_default-tell_hold-clause-keeper : goal.returns-in_default-tell_hold-clause-keeper
+returns-in_default-tell_hold-clause-keeper g c =
+    keeper_none memory_none c.in-Ok-call.ensures.keeper
 
-pub returns-in-Err-clause-said : goal.returns-in-Err-clause-said
-returns-in-Err-clause-said g c =
-    unsaid (trust_by (g.S.MakesSeals.made c.args.sealer.now) (g.S.Checker.accepts c.args.sealer.now)) c.args.self.now (events.Send c.args.member c.args.tx.now) c.hand.new.self.said c.in-Err.ensures.unsaid
+pub returns-clause-line : goal.returns-clause-line
+unfolding work_of steps_to lines_in
+returns-clause-line g c =
+    line_told (trust_by (g.S.MakesSeals.made c.args.sealer.now) (g.S.Checker.accepts c.args.sealer.now)) (let v : Scene = record { terms = c.self.inside.seats.terms; opening = c.self.inside.opening; known = c.self.inside.directory; sequences = c.self.inside.order.sequences; epoch = c.self.inside.order.epoch; said = c.self.inside.said; certs = c.self.inside.certs; posts = c.self.inside.seats.posts } in v) c.args.self.now c.self.view_is (events.Send c.args.member c.args.tx.now) c.args.member (holds c.as_slice-3.result.now) (held_work c.args.member (cert_named (bare_world c.args.self.now) c.args.tx.now) c.as_slice-3.result.now (let e : Some c.as_slice-3.result.now ≡ option_map spelled_cert (cert_named (bare_world c.args.self.now) c.args.tx.now) = cc (c.as_slice-3.ensures.value, c.in-Some.is, c.in-Ok-spelled_cert.ensures, c.as_slice-2.ensures.value) in e)) refl refl (g.D.Keeper.lists c.args.keeper.now) (g.D.Keeper.lists c.call.new.keeper) c.call.new.self c.in-Ok-call.reply c.self.inside.said (line.Send c.args.member c.in-Ok.name c.in-Ok-tell_hold.text ∷ []) c.told-2.result c.in-Ok-call.ensures.served (hold_states (rules_in (g.S.Checker.accepts c.args.sealer.now) (let v : Scene = record { terms = c.self.inside.seats.terms; opening = c.self.inside.opening; known = c.self.inside.directory; sequences = c.self.inside.order.sequences; epoch = c.self.inside.order.epoch; said = c.self.inside.said; certs = c.self.inside.certs; posts = c.self.inside.seats.posts } in v)) c.args.member c.as_slice-3.result.now c.self.inside.said (reached_in (rules_in (g.S.Checker.accepts c.args.sealer.now) (let v : Scene = record { terms = c.self.inside.seats.terms; opening = c.self.inside.opening; known = c.self.inside.directory; sequences = c.self.inside.order.sequences; epoch = c.self.inside.order.epoch; said = c.self.inside.said; certs = c.self.inside.certs; posts = c.self.inside.seats.posts } in v)) c.self.inside.seats.posts c.args.member (holds c.as_slice-3.result.now))) (ap (λ n. line.Send c.args.member n c.in-Ok-tell_hold.text ∷ []) (let n : c.in-Ok.name ≡ c.args.tx.now = c.in-Ok.ensures ∙ c.as_slice.ensures.value in n) ∙ send_some_lines (trust_by (g.S.MakesSeals.made c.args.sealer.now) (g.S.Checker.accepts c.args.sealer.now)) (let v : Scene = record { terms = c.self.inside.seats.terms; opening = c.self.inside.opening; known = c.self.inside.directory; sequences = c.self.inside.order.sequences; epoch = c.self.inside.order.epoch; said = c.self.inside.said; certs = c.self.inside.certs; posts = c.self.inside.seats.posts } in v) c.args.member c.args.tx.now (cert_named (bare_world (let v : Scene = record { terms = c.self.inside.seats.terms; opening = c.self.inside.opening; known = c.self.inside.directory; sequences = c.self.inside.order.sequences; epoch = c.self.inside.order.epoch; said = c.self.inside.said; certs = c.self.inside.certs; posts = c.self.inside.seats.posts } in v)) c.args.tx.now) c.as_slice-3.result.now (line.Send c.args.member c.args.tx.now c.in-Ok-tell_hold.text ∷ []) c.in-Ok-tell_hold.text (subst (λ (x : Scene). Some c.as_slice-3.result.now ≡ option_map spelled_cert (cert_named (bare_world x) c.args.tx.now)) (sym c.self.view_is) (let e : Some c.as_slice-3.result.now ≡ option_map spelled_cert (cert_named (bare_world c.args.self.now) c.args.tx.now) = cc (c.as_slice-3.ensures.value, c.in-Some.is, c.in-Ok-spelled_cert.ensures, c.as_slice-2.ensures.value) in e)) (c.in-Ok-tell_hold.ensures ∙ hold_reply (trust_by (g.S.MakesSeals.made c.args.sealer.now) (g.S.Checker.accepts c.args.sealer.now)) (let v : Scene = record { terms = c.self.inside.seats.terms; opening = c.self.inside.opening; known = c.self.inside.directory; sequences = c.self.inside.order.sequences; epoch = c.self.inside.order.epoch; said = c.self.inside.said; certs = c.self.inside.certs; posts = c.self.inside.seats.posts } in v) c.args.member c.as_slice-3.result.now c.in-Ok-call.reply c.in-Ok-call.ensures.served.answer) refl) c.told-2.ensures.lines
 
-pub returns-clause-said : goal.returns-clause-said
-unfolding steps_to work_of
-returns-clause-said g c =
-    all_said_on (trust_by (g.S.MakesSeals.made c.args.sealer.now) (g.S.Checker.accepts c.args.sealer.now)) c.args.self.now (events.Send c.args.member c.args.tx.now) c.hand.new.self.said c.told-2.result
-    (ap (λ (x : Scene). x.said) (send_some_world (g.S.MakesSeals.made c.args.sealer.now) (rules_in (g.S.Checker.accepts c.args.sealer.now) c.args.self.now) c.args.self.now c.hand.new.self c.args.member (cert_named (bare_world c.args.self.now) c.args.tx.now) c.as_slice-3.result.now
-    (let e : Some c.as_slice-3.result.now ≡ option_map spelled_cert (cert_named (bare_world c.args.self.now) c.args.tx.now) = cc (c.as_slice-3.ensures.value, c.in-Some.is, c.in-Ok-spelled_cert.ensures, c.as_slice-2.ensures.value) in e)
-    c.in-Ok-hand.ensures.world))
+pub returns-clause-keeper : goal.returns-clause-keeper
+returns-clause-keeper g c =
+    keeper_none c.told-2.ensures.fault c.in-Ok-call.ensures.keeper

@@ -1,24 +1,40 @@
-use Rattle.std.proofs.Common.{rules, ◌≡◌, true, List, Ok, Result}
-use Rattle.report_text.specs.declared.lines.Line.{Line}
-use Rattle.schedule_text.specs.declared.words.Event.TheVariants as events
-use Rattle.world_spec.specs.SceneSteps.{work_of}
-use Rattle.world_core.specs.Kept.{is_quiet}
-use Rattle.world_core.specs.Trusts.{trust_by}
-use Rattle.world_core.specs.declared.world.WorldFault.{WorldFault}
-use Rattle.world_core.proofs.Leaving.{quiet_leaves}
-use Rattle.world_core.proofs.Stays.{step_stays}
 use Rattle.world_core.proofs.world.World.step.Goals as goal
 
-pub returns-in-Ok-clause-stay : goal.returns-in-Ok-clause-stay
-returns-in-Ok-clause-stay g c = step_stays (trust_by (g.S.MakesSeals.made c.args.sealer.now) (g.S.Checker.accepts c.args.sealer.now)) c.args.self.now c.see.new.self (events.See c.in-See.member c.in-See.entries) c.in-Ok.ensures.world
+pub returns-clause-world : goal.returns-clause-world
+returns-clause-world g c = c.run_line.ensures.step.world
 
-pub returns-in-Ok-run_call-clause-stay : goal.returns-in-Ok-run_call-clause-stay
-returns-in-Ok-run_call-clause-stay g c = step_stays (trust_by (g.S.MakesSeals.made c.args.sealer.now) (g.S.Checker.accepts c.args.sealer.now)) c.args.self.now c.run_call.new.self c.args.event.now c.in-Ok-run_call.ensures.world
+pub returns-clause-lines : goal.returns-clause-lines
+returns-clause-lines g c = c.run_line.ensures.step.lines
 
-pub returns-in-Ok-run_local_event-clause-stay : goal.returns-in-Ok-run_local_event-clause-stay
-returns-in-Ok-run_local_event-clause-stay g c = step_stays (trust_by (g.S.MakesSeals.made c.args.sealer.now) (g.S.Checker.accepts c.args.sealer.now)) c.args.self.now c.run_local_event.new.self c.args.event.now c.in-Ok-run_local_event.ensures.world
+pub returns-clause-kept : goal.returns-clause-kept
+returns-clause-kept g c = c.run_line.ensures.step.kept
 
-pub returns-in-Ok-run_local_event-clause-kept : goal.returns-in-Ok-run_local_event-clause-kept
-unfolding work_of
-returns-in-Ok-run_local_event-clause-kept g c =
-    quiet_leaves (trust_by (g.S.MakesSeals.made c.args.sealer.now) (g.S.Checker.accepts c.args.sealer.now)) c.args.self.now c.args.event.now (g.D.Keeper.lists c.args.keeper.now) (let x : Result (List Line) WorldFault = Ok c.in-Ok-run_local_event.lines in x) (let quiet : is_quiet c.args.event.now ≡ true = search rules in quiet)
+pub returns-clause-restart : goal.returns-clause-restart
+returns-clause-restart g c = c.run_line.ensures.step.restart
+
+pub returns-clause-stay : goal.returns-clause-stay
+returns-clause-stay g c = c.run_line.ensures.step.stay
+
+pub returns-clause-cut : goal.returns-clause-cut
+returns-clause-cut g c = c.run_line.ensures.step.cut
+
+pub returns-clause-books : goal.returns-clause-books
+returns-clause-books g c = c.run_line.ensures.step.books
+
+pub returns-clause-quiet : goal.returns-clause-quiet
+returns-clause-quiet g c = c.run_line.ensures.step.quiet
+
+pub returns-clause-said : goal.returns-clause-said
+returns-clause-said g c = c.run_line.ensures.step.said
+
+pub returns-clause-bad : goal.returns-clause-bad
+returns-clause-bad g c = c.run_line.ensures.step.bad
+
+pub returns-clause-width : goal.returns-clause-width
+returns-clause-width g c = c.run_line.ensures.keeper.width
+
+pub returns-clause-later : goal.returns-clause-later
+returns-clause-later g c = c.run_line.ensures.keeper.later
+
+pub returns-clause-fault : goal.returns-clause-fault
+returns-clause-fault g c = c.run_line.ensures.keeper.fault

@@ -1,22 +1,46 @@
-use Rattle.world_spec.specs.Scene.{Scene}
-use Rattle.world_core.specs.Trusts.{trust_by}
-use Rattle.protocol_spec.specs.Member.Calls.{turns}
-use Rattle.world_core.proofs.Cuts.{books_seen, cut_seen}
-use Rattle.world_spec.specs.SceneSteps.{work_of}
-use Rattle.std.proofs.Common.{ap}
-use Rattle.world_core.proofs.Stated.{unsaid_on}
+use Rattle.std.proofs.Common.{◌≡◌, ◌∙◌, ap, refl, sym, subst, append-nil, List, [], ◌∷◌, ◌++◌, map, ℕ, Some, None, Result, Ok, Err, option_map}
+use Rattle.report_text.specs.declared.lines.Line.{Line}
+use Rattle.report_text.specs.declared.lines.Line.TheVariants as line
 use Rattle.schedule_text.specs.declared.words.Event.TheVariants as events
+use Rattle.world_spec.specs.Scene.{Scene, bare_world, rules_in}
+use Rattle.world_spec.specs.SceneSteps.{lines_in, steps_to, work_of}
+use Rattle.world_spec.specs.Posts.{reached_in}
+use Rattle.world_spec.specs.World.{Said, said_by}
+use Rattle.world_core.specs.Trusts.{trust_by}
+use Rattle.world_core.specs.declared.reply.SeatFault.{SeatFault}
+use Rattle.world_core.specs.declared.reply.SeatFault.TheVariants as seat_fault
+use Rattle.world_core.proofs.Serving.{keeper_err, keeper_none, keeper_same, line_done, line_failed, line_idle, line_told, line_unmade, line_untold, memory_none, ok_none}
+use Rattle.std.specs.Prelude.{slice_get}
+use Rattle.protocol_spec.specs.Member.Calls.{turns}
+use Rattle.world_spec.specs.SceneSteps.{standing_at}
+use Rattle.world_core.specs.Crews.{epoch_of}
+use Rattle.world_core.specs.Epochs.{turn_replied}
+use Rattle.world_core.proofs.Turning.{turn_reply, turn_states}
 use Rattle.world_core.proofs.world.World.turn.Goals as goal
 
-pub returns-clause-cut : goal.returns-clause-cut
-unfolding work_of
-returns-clause-cut g c =
-    cut_seen (trust_by (g.S.MakesSeals.made c.args.sealer.now) (g.S.Checker.accepts c.args.sealer.now)) (let v : Scene = record { terms = c.self.inside.seats.terms; opening = c.self.inside.opening; known = c.self.inside.directory; sequences = c.self.inside.order.sequences; epoch = c.self.inside.order.epoch; said = c.self.inside.said; certs = c.self.inside.certs; posts = c.self.inside.seats.posts } in v) c.args.self.now c.args.member turns c.turn.new.seats.posts (g.D.Keeper.lists c.args.keeper.now) (g.D.Keeper.lists c.turn.new.keeper) c.turn.result c.self.view_is c.turn.ensures.cut
+pub returns-in-Err-clause-line : goal.returns-in-Err-clause-line
+unfolding work_of steps_to
+returns-in-Err-clause-line g c =
+    line_failed (trust_by (g.S.MakesSeals.made c.args.sealer.now) (g.S.Checker.accepts c.args.sealer.now)) (let v : Scene = record { terms = c.self.inside.seats.terms; opening = c.self.inside.opening; known = c.self.inside.directory; sequences = c.self.inside.order.sequences; epoch = c.self.inside.order.epoch; said = c.self.inside.said; certs = c.self.inside.certs; posts = c.self.inside.seats.posts } in v) c.args.self.now c.self.view_is (events.Turn c.args.member) c.args.member turns refl refl refl (g.D.Keeper.lists c.args.keeper.now) (g.D.Keeper.lists c.call.new.keeper) c.call.new.self c.in-Err.fault c.in-Err.fault c.in-Err.ensures.served
 
-pub returns-clause-books : goal.returns-clause-books
-returns-clause-books g c =
-    books_seen (let v : Scene = record { terms = c.self.inside.seats.terms; opening = c.self.inside.opening; known = c.self.inside.directory; sequences = c.self.inside.order.sequences; epoch = c.self.inside.order.epoch; said = c.self.inside.said; certs = c.self.inside.certs; posts = c.self.inside.seats.posts } in v) c.args.self.now c.turn.new.seats.terms c.turn.new.seats.posts c.self.inside.said c.self.view_is c.turn.ensures.terms c.turn.ensures.count
+pub returns-in-Err-clause-keeper : goal.returns-in-Err-clause-keeper
+returns-in-Err-clause-keeper g c =
+    keeper_err c.in-Err.fault c.in-Err.ensures.keeper
 
-pub returns-clause-said : goal.returns-clause-said
-returns-clause-said g c =
-    unsaid_on (trust_by (g.S.MakesSeals.made c.args.sealer.now) (g.S.Checker.accepts c.args.sealer.now)) c.args.self.now (events.Turn c.args.member) c.self.inside.said c.turn.result (ap (λ (x : Scene). x.said) c.self.view_is)
+pub returns-in-Ok-tell_turn-clause-line : goal.returns-in-Ok-tell_turn-clause-line
+unfolding work_of steps_to lines_in
+returns-in-Ok-tell_turn-clause-line g c =
+    line_told (trust_by (g.S.MakesSeals.made c.args.sealer.now) (g.S.Checker.accepts c.args.sealer.now)) (let v : Scene = record { terms = c.self.inside.seats.terms; opening = c.self.inside.opening; known = c.self.inside.directory; sequences = c.self.inside.order.sequences; epoch = c.self.inside.order.epoch; said = c.self.inside.said; certs = c.self.inside.certs; posts = c.self.inside.seats.posts } in v) c.args.self.now c.self.view_is (events.Turn c.args.member) c.args.member turns refl refl refl (g.D.Keeper.lists c.args.keeper.now) (g.D.Keeper.lists c.call.new.keeper) c.call.new.self c.in-Ok.reply c.self.inside.said (turn_replied c.self.inside.directory c.args.member c.epoch-epoch.result c.in-Ok.reply) (let y : Result (List Line) SeatFault = Ok c.in-Ok-tell_turn.lines in y) c.in-Ok.ensures.served (turn_states (rules_in (g.S.Checker.accepts c.args.sealer.now) (let v : Scene = record { terms = c.self.inside.seats.terms; opening = c.self.inside.opening; known = c.self.inside.directory; sequences = c.self.inside.order.sequences; epoch = c.self.inside.order.epoch; said = c.self.inside.said; certs = c.self.inside.certs; posts = c.self.inside.seats.posts } in v)) c.args.member c.self.inside.said (reached_in (rules_in (g.S.Checker.accepts c.args.sealer.now) (let v : Scene = record { terms = c.self.inside.seats.terms; opening = c.self.inside.opening; known = c.self.inside.directory; sequences = c.self.inside.order.sequences; epoch = c.self.inside.order.epoch; said = c.self.inside.said; certs = c.self.inside.certs; posts = c.self.inside.seats.posts } in v)) c.self.inside.seats.posts c.args.member turns)) (turn_reply (trust_by (g.S.MakesSeals.made c.args.sealer.now) (g.S.Checker.accepts c.args.sealer.now)) (let v : Scene = record { terms = c.self.inside.seats.terms; opening = c.self.inside.opening; known = c.self.inside.directory; sequences = c.self.inside.order.sequences; epoch = c.self.inside.order.epoch; said = c.self.inside.said; certs = c.self.inside.certs; posts = c.self.inside.seats.posts } in v) c.args.member c.epoch-epoch.result c.in-Ok.reply c.epoch-epoch.ensures c.in-Ok.ensures.served.answer) c.in-Ok-tell_turn.ensures
+
+pub returns-in-Ok-tell_turn-clause-keeper : goal.returns-in-Ok-tell_turn-clause-keeper
+returns-in-Ok-tell_turn-clause-keeper g c =
+    keeper_none (ok_none c.in-Ok-tell_turn.lines) c.in-Ok.ensures.keeper
+
+pub returns-clause-line : goal.returns-clause-line
+unfolding work_of steps_to
+returns-clause-line g c =
+    line_untold (trust_by (g.S.MakesSeals.made c.args.sealer.now) (g.S.Checker.accepts c.args.sealer.now)) (let v : Scene = record { terms = c.self.inside.seats.terms; opening = c.self.inside.opening; known = c.self.inside.directory; sequences = c.self.inside.order.sequences; epoch = c.self.inside.order.epoch; said = c.self.inside.said; certs = c.self.inside.certs; posts = c.self.inside.seats.posts } in v) c.args.self.now c.self.view_is (events.Turn c.args.member) c.args.member turns refl refl refl (g.D.Keeper.lists c.args.keeper.now) (g.D.Keeper.lists c.call.new.keeper) c.call.new.self c.in-Ok.reply c.self.inside.said seat_fault.OutOfMemory c.in-Ok.ensures.served (refl)
+
+pub returns-clause-keeper : goal.returns-clause-keeper
+returns-clause-keeper g c =
+    keeper_none memory_none c.in-Ok.ensures.keeper
