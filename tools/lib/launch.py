@@ -1,5 +1,6 @@
 """What ./committee, ./inspect and ./validator do: help, the proved program, or the unproved build of the same sources, which is kept."""
 
+import contextlib
 import os
 import re
 import signal
@@ -130,9 +131,15 @@ def status_of(words):
             os.execv(words[0], words)
         finally:
             os._exit(1)
+
+    def hand_on(number, _):
+        """Hands a signal on to the program, if it has not ended."""
+        with contextlib.suppress(ProcessLookupError):
+            os.kill(child, number)
+
     for number in HANDED_ON:
         if signal.getsignal(number) != signal.SIG_IGN:
-            signal.signal(number, lambda it, _: os.kill(child, it))
+            signal.signal(number, hand_on)
     signal.pthread_sigmask(signal.SIG_UNBLOCK, HANDED_ON)
     _, status = os.waitpid(child, 0)
     status = os.waitstatus_to_exitcode(status)
