@@ -55,7 +55,7 @@ def orders():
     said = read(f"{TOP}/docs/REPORTS.md").decode()
     found = {}
     for heading, body in re.findall(r"(?ms)^## (.*?)\n(.*?)(?=^## |\Z)", said):
-        for of, names in re.findall(r"(?:of(?: a| an)? `(\w+)`[^`.;]*?)?(?:in this |in the )order:? ((?:`[^`]+`[^`.;]*)+)", body):
+        for of, names in re.findall(r"(?:(?:of|for)(?: a| an)? `(\w+)`[^`.;]*?)?(?:in this |in the )order:? ((?:`[^`]+`[^`.;]*)+)", body):
             listed = re.findall(r"`([^`]+)`", names)
             if len(listed) > 1:
                 found.setdefault(of or heading.strip("` ").split("`")[0], []).append(listed)
