@@ -1,4 +1,4 @@
-//! What the execution of a block keeps: laws over its definition, each for every transaction and all objects.
+//! What the execution of a block keeps: theorems over its definition, each for every transaction and all objects.
 ghost use Rattle.block_law.specs.Failing.{AFailedBlockPaysGas};
 ghost use Rattle.block_law.specs.Keeping.{CapsAreKept, GasCurrencyIsKept, MoneyMovesWithSupplies};
 ghost use Rattle.block_law.specs.Names.{EffectsNameEachIdOnce, EffectsNameWhatIsTouched};

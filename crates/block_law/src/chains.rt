@@ -1,6 +1,6 @@
-//! One thread that executes transactions in order reads what was read when each was executed, wherever and in
-//! whatever order that was, as long as each object comes from the opening objects or from an earlier transaction; and
-//! it leaves the objects that were left there.
+//! Members may execute in different orders. As long as each object comes from the opening objects or an earlier
+//! transaction, one thread that goes in order reads at each transaction what was read when it was executed, and leaves
+//! the same objects.
 ghost use Rattle.block_law.specs.Leaving.{LiveIsMap, LiveListIsMap};
 ghost use Rattle.block_law.specs.Orderly.{ChainReads};
 

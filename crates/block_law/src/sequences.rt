@@ -1,4 +1,4 @@
-//! What one thread that executes transactions in order keeps: laws over the definition of sequential execution.
+//! What one thread that executes transactions in order keeps: theorems over the definition of sequential execution.
 ghost use Rattle.block_law.specs.Kept.{BackedCurrenciesStayBacked, CapsStayInSequence, MoneyMovesInSequence, OnlyGasGoes};
 ghost use Rattle.block_law.specs.Untouched.{UntouchedObjectsStay};
 

@@ -1,4 +1,5 @@
-//! What an execution makes of shared objects: they keep their places, and nothing but their own transaction shares them.
+//! What an execution does to shared objects: a mutable shared input is written under its id and owner, and an object
+//! becomes shared only by the transaction that creates it.
 ghost use Rattle.block_law.specs.Shared.{SharedInputsAreWritten, WritesStayShared};
 
 /// The object of a mutable shared input is written under its id and with its owner, in success and in failure.

@@ -1,5 +1,5 @@
--- How far a follower gets if it takes checkpoints in order, each with the transactions that are known by the digests of its
--- items. Source: Sui Lutris; what is said of the first that it does not apply is this profile's own.
+-- How far a follower gets if it takes checkpoints in order, each with its transactions, looked up by digest. Source: Sui
+-- Lutris; what is reported of the first checkpoint that it does not apply is this profile's own.
 use Rattle.std.specs.Prelude.{ℕ, ◌+◌, nat_lt, Bool, true, false, List, [], ◌∷◌, filter, Option, Some, None, Result, Ok, Err, if◌then◌else◌}
 use Rattle.digest_core.specs.declared.Digest.{Digest}
 use Rattle.chain_types.specs.declared.transactions.Transaction.{Transaction}

@@ -1,5 +1,5 @@
--- The transactions of a checkpoint, one after the other: where each leads, and why one cannot stand. Source: Sui Lutris;
--- the order of the causes is this profile's own.
+-- The transactions of a checkpoint, one after another: what each leaves, and why one cannot be applied. Source: Sui
+-- Lutris; the order of the causes is this profile's own.
 use Rattle.std.specs.Prelude.{ℕ, ◌+◌, Bool, true, not, ◌&&◌, ◌||◌, List, [], ◌∷◌, ◌++◌, map, Option, Some, None, is_some, if◌then◌else◌}
 use Rattle.std.specs.List.{list_any}
 use Rattle.std.specs.FinMap.{get}

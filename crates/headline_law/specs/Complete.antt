@@ -1,6 +1,6 @@
--- A held certificate whose inputs are present, and that is admitted if it has a shared input, is ready: they fit, and no
--- key that it writes is there already. So is each that is due, and the next round executes it. Source: Sui Lutris
--- (execution of certificates); this profile (rounds).
+-- A held certificate is ready if its inputs are present and, if one is shared, it has been admitted: the inputs fit, and
+-- no key that it writes exists yet. A certificate that is due (its origins and assigned writers were executed) is ready
+-- too, and the next round executes it. Source: Sui Lutris (execution of certificates); this profile (rounds).
 use Rattle.std.specs.Prelude.{◌≡◌, ℕ, true, false, List, ◌++◌, slice_get, Some}
 use Rattle.chain_types.specs.declared.objects.ObjectKey.{ObjectKey}
 use Rattle.chain_types.specs.declared.objects.Object.{Object}

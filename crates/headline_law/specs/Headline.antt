@@ -1,6 +1,6 @@
--- The headline, on one page: what holds of every moment of every run in which under a third of the stake is faulty, no
--- statement is forged and no digests collide, whatever is delivered, lost, repeated, stopped and started again. Source:
--- Sui Lutris.
+-- The headline, on one page: what holds at every moment of every run, and what more holds if under a third of the stake
+-- is faulty, no statement is forged, and digests and ids do not collide, whatever is lost, repeated, stopped and
+-- restarted. Source: Sui Lutris.
 use Rattle.std.specs.Prelude.{◌≡◌, ◌≢◌, ◌<◌, ◌+◌, ◌⊎◌, ℕ, suc, true, false, List, [], ◌++◌, slice_get, Option, Some, None, Ok, Err}
 use Rattle.digest_core.specs.declared.Digest.{Digest}
 use Rattle.chain_types.specs.declared.objects.Object.{Object}

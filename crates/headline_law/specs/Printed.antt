@@ -1,5 +1,4 @@
--- What the report's word that a transaction is final stands for. Source: this profile (the report); Sui Lutris
--- (finality).
+-- What a `final by` line of the report stands for. Source: this profile (the report); Sui Lutris (finality).
 use Rattle.std.specs.Prelude.{◌≡◌, ℕ, true, List, ◌∷◌, ◌++◌, Some, Ok}
 use Rattle.digest_core.specs.declared.Digest.{Digest}
 use Rattle.schedule_text.specs.declared.words.Event.{Event}

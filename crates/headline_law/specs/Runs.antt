@@ -1,5 +1,5 @@
--- What runs do: what is ready is executed, after a run nothing is ready, and nothing is left. Source: this profile (rounds); Sui Lutris (what was
--- certified can be executed wherever what it needs was).
+-- What runs do: they execute what is ready, and leave nothing ready and nothing behind. Source: this profile (rounds);
+-- Sui Lutris (a certified transaction can be executed at every member that has executed what it needs).
 use Rattle.std.specs.Prelude.{◌≡◌, ◌⊎◌, ℕ, true, false, nat_le, List, [], ◌∷◌, ◌++◌, slice_get, Option, Some, None, Ok, Err}
 use Rattle.std.specs.List.{list_all}
 use Rattle.digest_core.specs.declared.Digest.{Digest}

@@ -1,4 +1,4 @@
--- What an honest member was when it made its statements. Source: Sui Lutris (an honest member acknowledges what it
+-- The state in which an honest member made each statement. Source: Sui Lutris (an honest member acknowledges what it
 -- executed, and says that an epoch is to end when all that it holds is in the sequence).
 use Rattle.std.specs.Prelude.{◌≡◌, ℕ, true, List, ◌++◌, slice_get, Some}
 use Rattle.digest_core.specs.declared.Digest.{Digest}

@@ -1,6 +1,6 @@
-//! A member that sealed for two transactions of one epoch that consume one version is faulty, if no seal is forged and no digests
-//! collide; the members that sealed two valid certificates of such transactions have more than a third of the stake. A
-//! certified chain consists of what honest members have built, and a follower applies what a member has built.
+//! A member that sealed for two transactions of one epoch that consume one version is faulty, if no seal is forged and no
+//! digests collide; the members that sealed two valid certificates of such transactions have more than a third of the
+//! stake.
 
 ghost use Rattle.headline_law.specs.Blame.{NoneIsHonest, TheyHaveMoreThanAThird};
 

@@ -1,7 +1,5 @@
-//! The headline: what holds of every moment of every honest run of a schedule that a text says; and final transactions:
-//! what a quorum acknowledged stands in a checkpoint of its epoch, with these effects, at every member that leaves it. What
-//! objects hold is an amount, a number below 2^64, from the set-up on; an input is present if its maker was executed,
-//! versions form one chain, and what is held with its inputs present, and admitted if shared, is ready.
+//! The headline: what holds at every moment of the run of every schedule that a text says, and what more holds under the
+//! run assumptions.
 #![tactic(auto)]
 
 mod blame;

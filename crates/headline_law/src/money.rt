@@ -1,5 +1,5 @@
-//! What objects hold is an amount, a number below 2^64, from the set-up through every block and every epoch. So the sums
-//! of each currency over the epochs hold in the run of every schedule that a text says, under only the run assumptions.
+//! Balances and supplies stay below 2^64 from the set-up through every block and epoch. So the sums of each currency hold
+//! in the run of every schedule that a text says, under only the run assumptions.
 
 ghost use Rattle.headline_law.specs.Amounts.{AmountsStayAmounts, MoneyStaysAmounts};
 ghost use Rattle.headline_law.specs.Openings.{GasWasHeld, OpeningsHoldAmounts, ThreadsKeepAmounts};

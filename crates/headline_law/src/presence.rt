@@ -1,5 +1,5 @@
-//! What the voters of a certificate saw is there for every member that executed what made it: no held certificate misses
-//! an owned or immutable input whose origin was executed.
+//! Every member that executed the transaction which made an owned or immutable input has that input: no held certificate
+//! misses one whose origin was executed.
 ghost use Rattle.headline_law.specs.Cast.{EveryVoteWasCast};
 ghost use Rattle.headline_law.specs.Present.{CertificatesFit, OwnedInputsArePresent, OwnedInputsFit};
 

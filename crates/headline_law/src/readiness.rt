@@ -1,6 +1,5 @@
-//! Which held certificates are ready, under the run assumptions: all whose inputs are there, and all whose origins and
-//! assigned writers were executed, shared inputs included. So no run leaves anything, and each executes all that was
-//! admitted.
+//! Under the run assumptions a held certificate is ready once its inputs are present, or its origins and assigned writers
+//! were executed, shared inputs included. So a run executes all that was admitted, and leaves nothing.
 ghost use Rattle.headline_law.specs.Complete.{DueIsReady, NextRoundTakesAll, NextRoundTakesDue, NothingClashes, PresentIsReady, WritesNewKeys};
 ghost use Rattle.headline_law.specs.Ready.{NoneIsUnfit, SharedInputsArePresent, SharedInputsFit};
 ghost use Rattle.headline_law.specs.Runs.{NoRunLeavesAnything, NoTurnWaitsBehindARun, NothingIsLeft, NothingIsReadyBehindARun, RunsAreComplete, RunsBuildAll, RunsExecuteAdmitted, RunsExecuteAll, RunsExecuteReady, WhatIsReadyIsExecuted};

@@ -1,4 +1,4 @@
-//! What an honest member was when it acknowledged a transaction, and when it stated that an epoch is to end.
+//! The state in which an honest member acknowledged a transaction, or stated its End.
 ghost use Rattle.headline_law.specs.Stated.{EveryAckWasExecuted, EveryEndWasSettled, EveryStatementWasMade, ExecutedIsAdmitted};
 
 /// Each statement of an honest member was made by a call in a state in which the member was.

@@ -39,7 +39,8 @@ fn add_formed<S: Sealer>(
         let Some(cert) = world.certificate(place) else {
             return Ok(());
         };
-        found.add(alloc, world.committee(), sealer, cert)?;
+        let cert = cert.copy()?;
+        found.add(alloc, world.committee(), sealer, &cert)?;
     }
     // no text has so many lines; it counts as running out of memory
     Err(OutOfMemory)

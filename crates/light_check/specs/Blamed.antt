@@ -1,5 +1,5 @@
--- Who sealed two votes of which an honest member casts one at most. Source: Sui Lutris (an honest member votes for one
--- transaction of each owned version); who is named, and in which order, is this profile's own.
+-- Who sealed both of two votes, of which an honest member casts at most one. Source: Sui Lutris (an honest member votes
+-- for one transaction of each owned version); who is named, and in which order, is this profile's own.
 use Rattle.std.specs.Prelude.{ℕ, Bool, not, ◌&&◌, ◌==◌, List, filter, map, Option, None, option_map, if◌then◌else◌}
 use Rattle.chain_types.specs.declared.objects.ObjectKey.{ObjectKey}
 use Rattle.chain_types.specs.Equal.{digest_eq}

@@ -1,5 +1,5 @@
--- Certified chains: what a client that trusts only the stakes of a committee knows. Source: Sui Lutris; where the
--- chain begins is this profile's own.
+-- Certified chains: what a client knows that trusts only the stakes of a committee and the seals that it accepts. Source:
+-- Sui Lutris; where the chain begins is this profile's own.
 use Rattle.std.specs.Prelude.{◌≡◌, ℕ, ◌+◌, Bool, true, List, [], ◌∷◌, map, Option, Some, None, option_map, if◌then◌else◌}
 use Rattle.digest_core.specs.declared.Digest.{Digest}
 use Rattle.quorum_core.specs.declared.signer.Signer.{Signer}

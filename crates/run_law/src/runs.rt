@@ -1,5 +1,5 @@
-//! First laws of every run: each event is reported, a restart changes no member's state, neither does a call that
-//! appends no record, and the number of workers changes nothing; older records are read as the present ones.
+//! First theorems of every run: each event is reported; a restart, or a call that appends no record, changes no member's
+//! state; the number of workers changes neither report nor journals; older records are read as the present ones.
 ghost use Rattle.run_law.specs.Laws.{EachEventIsReported, NoRecordNoChange, OlderRunsAreRead, RestartKeepsStates, WorkersChangeNothing};
 
 /// A report has at least one line for each event.

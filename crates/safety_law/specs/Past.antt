@@ -1,4 +1,4 @@
--- The checkpoints of the epochs before: those of one thread. Source: Sui Lutris.
+-- The checkpoints of all epochs before a given one, as one thread gives them. Source: Sui Lutris.
 use Rattle.std.specs.Prelude.{ℕ, zero, suc, List, [], ◌∷◌, ◌++◌, map, flat_map, zip, take, drop, length}
 use Rattle.chain_types.specs.declared.objects.Object.{Object}
 use Rattle.checkpoint_core.specs.declared.checkpoints.Item.{Item}

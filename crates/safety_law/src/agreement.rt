@@ -1,5 +1,5 @@
-//! What the sequence of an epoch gives to all members alike: in every run, members of one epoch that opened it with
-//! equal objects admit the same transactions in the same order, and cut the same checkpoints.
+//! What the sequence of an epoch gives to all members alike: in every run, of two members of one epoch that opened it
+//! with equal objects, one has admitted and cut a prefix of what the other has.
 ghost use Rattle.safety_law.specs.Alike.{ExecutionsAgree, OneTransaction};
 ghost use Rattle.safety_law.specs.Explained.{ExecutionsExplained};
 ghost use Rattle.safety_law.specs.Agreed.{EveryAdmission, HeldAsGiven, MembersFollowTheSequence, OneSequence};

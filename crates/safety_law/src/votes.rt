@@ -1,5 +1,5 @@
-//! What holds of every member in every run: each of its records was due in the state of those before it, and its
-//! votes of one epoch share no consumed version.
+//! What holds of every member in every run: each of its records was due in the state of those before it, and its votes of
+//! one epoch for transactions of different digests consume no common version.
 ghost use Rattle.safety_law.specs.Members.{EveryRecordIsDue, EveryVoteIsKept, NoVersionIsVotedTwice, VotesNameOneOrigins, VotesShareNoVersion};
 
 /// Each record of each member is the one that some call appends in the state of the records before it.

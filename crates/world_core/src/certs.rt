@@ -10,7 +10,7 @@ ghost use Rattle.world_core.specs.Trusts.{trust_by};
 
 use crate::world::World;
 use report_text::{CertText, Line};
-use wire_bcs::{Encoded, OutOfMemory, Seq};
+use wire_bcs::{OutOfMemory, Seq};
 use world_lines::{MakesSeals, cert_lines, certify, collected_lines, is_whole};
 
 impl World {
@@ -39,8 +39,7 @@ impl World {
             return Ok(lines);
         }
         let cert = certify(self.alloc, &self.said, made, members)?;
-        let encoded = Encoded::new(self.alloc, cert)?;
-        self.certs.add(made.name.as_slice(), encoded)?;
+        self.certs.add(made.name.as_slice(), cert)?;
         Ok(lines)
     }
 }

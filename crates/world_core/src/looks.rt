@@ -14,7 +14,6 @@ ghost use Rattle.world_lines.specs.Answers.{vote_as};
 ghost use Rattle.world_spec.specs.Names.{cert_in};
 
 use crate::world::World;
-use chain_messages::Certificate;
 use chain_types::{Object, SignedTx, Transaction};
 use checkpoint_core::Checkpoint;
 use digest_core::Digest;
@@ -23,7 +22,7 @@ use quorum_core::Committee;
 use report_text::Line;
 use validator_core::Validator;
 use wire_bcs::{OutOfMemory, Seq};
-use world_lines::{Directory, shown_lines, vote_text};
+use world_lines::{Directory, FormedCertificate, shown_lines, vote_text};
 
 impl World {
     /// The committee, by the stakes of the set-up. Takes no memory.
@@ -102,14 +101,11 @@ impl World {
     /// The certificate of the `cert` line at this place, counted from 0 among those that formed one, which can be encoded;
     /// none exactly if there is no such line. Takes no memory.
     #[tactic(auto, using(crate::proofs::Asked::formed_short))]
-    pub fn certificate(&self, place: usize) -> Option<&Certificate>
+    pub fn certificate(&self, place: usize) -> Option<&FormedCertificate>
         ensures short { IfSome result (λ c. messages.certificate.short c.now) }
         ensures value { option_copied result ≡ option_map cert_in (slice_get self.now.certs place) }
     {
-        match self.certs.at(place) {
-            Some(cert) => Some(cert.value()),
-            None => None,
-        }
+        self.certs.at(place)
     }
 
     /// The line of a `vote` of a member for this transaction, with this reply: the transaction goes by the name of the first

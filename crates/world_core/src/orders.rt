@@ -44,7 +44,7 @@ impl World {
         let Some(cert) = self.certs.last_named(tx) else {
             return order_line(self.alloc, tx, OrderText::NoCertificate);
         };
-        if cert.value().tx.epoch != self.order.epoch() {
+        if cert.epoch() != self.order.epoch() {
             return order_line(self.alloc, tx, OrderText::NotTaken);
         }
         let lines = order_line(

@@ -1,7 +1,8 @@
 -- What lines form and order can be encoded.
-use Rattle.std.proofs.Common.{◌≡◌, ◌∙◌, ap, sym, refl, subst, suc, ℕ, ◌≤◌, List, [], ◌∷◌, length, Option, arith}
+use Rattle.std.proofs.Common.{◌≡◌, ◌∙◌, ap, sym, refl, subst, suc, ℕ, ◌+◌, ◌-◌, ◌≤◌, List, [], ◌∷◌, length, length-append, take, take_at, Option, arith}
 use Rattle.digest_core.specs.declared.Digest.{Digest}
 use Rattle.wire_bcs.specs.Digests.{digest}
+use Rattle.chain_types.specs.declared.transactions.SignedTx.{SignedTx}
 use Rattle.chain_types.specs.Transactions as transactions
 use Rattle.chain_messages.specs.declared.messages.Certificate.{Certificate}
 use Rattle.chain_messages.specs.declared.messages.Entry.TheVariants as entry
@@ -14,6 +15,17 @@ use Rattle.world_lines.specs.declared.rows.MadeTx.{MadeTx}
 use Rattle.world_lines.specs.KnownRows.{made_as}
 use Rattle.world_lines.specs.Forming.{first_origins_by}
 use Rattle.world_lines.specs.SaidVotes.{vote_by}
+
+-- what stands before the seal in the encoding of a signed transaction
+pub without_seal : (t : SignedTx) (bytes front : List ℕ) (mid : ℕ) → bytes ≡ transactions.signed.spell t → mid ≡ length bytes - length t.seal.0 → front ≡ take mid bytes → front ≡ transactions.transaction.spell t.tx
+unfolding transactions.signed digest
+without_seal t bytes front mid of at is =
+    is
+    ∙ ap (take mid) of
+    ∙ take_at (transactions.transaction.spell t.tx) t.seal.0 mid (sym (at ∙ ap (λ xs. length xs - length t.seal.0) of ∙ ap (λ k. k - length t.seal.0) (length-append (transactions.transaction.spell t.tx) t.seal.0) ∙ without (length (transactions.transaction.spell t.tx)) (length t.seal.0)))
+  where
+    without : (a b : ℕ) → (a + b) - b ≡ a
+    without a b = omega arith
 
 -- votes with origins that are not too many
 pub vote_short : (epoch : ℕ) (tx : Digest) (origins : List (Option Digest)) → length origins ≤ 2147483647 → messages.statement.short (statement.Vote epoch tx origins)

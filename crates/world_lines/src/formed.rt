@@ -7,18 +7,18 @@ ghost use Rattle.world_spec.specs.World.{Formed};
 ghost use Rattle.world_spec.specs.Names.{cert_in};
 ghost use Rattle.world_lines.specs.Rows.{row_cert};
 
+use crate::certificate::FormedCertificate;
 use crate::said::push_in_room;
-use chain_messages::Certificate;
 use indexmap::IndexMap;
 use std::alloc::Global;
 use std::marker::Model;
-use wire_bcs::{Encoded, OutOfMemory, Seq};
+use wire_bcs::{OutOfMemory, Seq};
 
-/// A certificate with its encoding, under the name for which it was formed.
+/// A certificate under the name for which it was formed.
 #[derive(Debug, Drop)]
 pub(crate) struct FormedRow {
     name: Seq<u8>,
-    cert: Encoded<Certificate>,
+    cert: FormedCertificate,
 }
 
 /// Notes the place of a name, which takes that of an older one. A refusal changes nothing.
@@ -35,7 +35,7 @@ fn note_name(
 }
 
 /// The certificate of the row at a place. Takes no memory.
-fn cert_at(rows: &[FormedRow], place: Option<usize>) -> Option<&Encoded<Certificate>>
+fn cert_at(rows: &[FormedRow], place: Option<usize>) -> Option<&FormedCertificate>
     ensures { option_copied result ≡ option_map row_cert (option_and_then (slice_get rows.now) place) }
 {
     match place {
@@ -82,7 +82,7 @@ impl FormedCertificates {
     }
 
     /// Adds a certificate that was formed for this name. A refusal changes nothing.
-    pub fn add(&mut self, name: &[u8], cert: Encoded<Certificate>) -> Result<(), OutOfMemory>
+    pub fn add(&mut self, name: &[u8], cert: FormedCertificate) -> Result<(), OutOfMemory>
         ensures ok { OnOk result (self.new ≡ self.old ++ record { name = name.now; cert = cert } ∷ []) }
         ensures err { OnErr result (self.new ≡ self.old) }
     {
@@ -96,7 +96,7 @@ impl FormedCertificates {
     }
 
     /// The certificate that was formed last for this name; none exactly if none was. Takes no memory.
-    pub fn last_named(&self, name: &[u8]) -> Option<&Encoded<Certificate>>
+    pub fn last_named(&self, name: &[u8]) -> Option<&FormedCertificate>
         ensures { option_copied result ≡ option_map cert_in (last_where (λ (f : Formed). bytes_eq f.name name.now) self.now) }
     {
         let place = self.places.get(name).copied();
@@ -105,7 +105,7 @@ impl FormedCertificates {
 
     /// The certificate at a place, counted from 0 in the order of forming; none exactly if none stands there. Takes no
     /// memory.
-    pub fn at(&self, place: usize) -> Option<&Encoded<Certificate>>
+    pub fn at(&self, place: usize) -> Option<&FormedCertificate>
         ensures { option_copied result ≡ option_map cert_in (slice_get self.now place) }
     {
         cert_at(self.rows.as_slice(), Some(place))

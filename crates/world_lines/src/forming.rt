@@ -1,6 +1,6 @@
 //! Forming the certificate of members that vote for the same origins.
 
-ghost use Rattle.std.specs.Prelude.{◌≡◌, IfOk, map};
+ghost use Rattle.std.specs.Prelude.{◌≡◌, ◌≤◌, IfOk, length, map};
 ghost use Rattle.chain_messages.specs.Messages as codecs;
 ghost use Rattle.chain_types.specs.Transactions as tx_codecs;
 ghost use Rattle.world_spec.specs.Setting.{seal_of_member};
@@ -11,12 +11,12 @@ ghost use Rattle.world_lines.specs.Forming.{first_origins_by, vote_bytes};
 ghost use Rattle.world_lines.specs.SaidVotes.{vote_by};
 
 use crate::said::StatementLog;
-use crate::{MadeTx, MakesSeals};
-use chain_messages::{Certificate, MemberSeal, Statement, encode_statement};
+use crate::{FormedCertificate, MadeTx, MakesSeals};
+use chain_messages::{MemberSeal, Statement, encode_statement};
 use digest_core::Digest;
 use quorum_core::Signer;
 use std::alloc::Global;
-use wire_bcs::{Duplicate, OutOfMemory, Seq};
+use wire_bcs::{OutOfMemory, Seq};
 
 /// The greatest length of a list that can be encoded.
 const LONGEST_LIST: u64 = 2147483647;
@@ -87,21 +87,22 @@ fn collected_seals(
 }
 
 /// The certificate of these members' votes for a transaction, which name these origins.
+#[tactic(auto, using(crate::proofs::Spelled::certificate_short))]
 fn certificate(
     alloc: Global,
     said: &StatementLog,
     made: &MadeTx,
-    origins: &[Option<Digest>],
+    origins: Seq<Option<Digest>>,
     members: &[u32],
-) -> Result<Certificate, OutOfMemory>
-    ensures { IfOk result (λ cert. cert ≡ certificate_of said.now (made_as made.now) origins.now members.now) }
+) -> Result<FormedCertificate, OutOfMemory>
+    requires tx { tx_codecs.signed.short made.now.signed }
+    requires origins { length origins ≤ 2147483647 }
+    requires members { length members.now ≤ 2147483647 }
+    ensures cert { IfOk result (λ cert. cert ≡ certificate_of said.now (made_as made.now) origins members.now) }
+    ensures short { IfOk result (λ cert. codecs.certificate.short cert) }
 {
     let seals = collected_seals(alloc, said, made, members)?;
-    Ok(Certificate {
-        tx: made.signed.value().tx.copy()?,
-        origins: Seq::from_slice(alloc, origins)?,
-        seals: Seq::from_vec(seals),
-    })
+    FormedCertificate::new(alloc, made.signed.share()?, origins, Seq::from_vec(seals))
 }
 
 /// The origins that a member voted for last; none if it made no such vote.
@@ -139,13 +140,12 @@ fn first_origins(
 
 /// The certificate of the votes of these members, with the seals that they put on them, which can be encoded. Lists that
 /// are too long for that count as running out of memory.
-#[tactic(auto, using(crate::proofs::Spelled::certificate_short))]
 pub fn certify(
     alloc: Global,
     said: &StatementLog,
     made: &MadeTx,
     members: &[u32],
-) -> Result<Certificate, OutOfMemory>
+) -> Result<FormedCertificate, OutOfMemory>
     requires { tx_codecs.signed.short made.now.signed }
     ensures cert { IfOk result (λ cert. cert ≡ certificate_of said.now (made_as made.now) (first_origins_by said.now made.now.signed.tx.epoch made.now.digest members.now) members.now) }
     ensures short { IfOk result (λ cert. codecs.certificate.short cert) }
@@ -155,5 +155,5 @@ pub fn certify(
     if origins.len() > LONGEST_LIST || members.len() as u64 > LONGEST_LIST {
         return Err(OutOfMemory);
     }
-    certificate(alloc, said, made, origins.as_slice(), members)
+    certificate(alloc, said, made, origins, members)
 }

@@ -30,6 +30,7 @@
 
 mod adding;
 mod addresses;
+mod certificate;
 mod certs;
 mod collecting;
 mod commands;
@@ -58,6 +59,7 @@ mod rows;
 mod runs;
 mod said;
 mod said_law;
+mod shared_tx;
 mod shown;
 mod shows;
 mod stated;
@@ -65,6 +67,7 @@ mod votes;
 mod words;
 
 pub use cert_rules::Collected;
+pub use certificate::FormedCertificate;
 pub use certs::{cert_lines, collected_lines, final_text, is_whole};
 pub use directory::Directory;
 pub use ends_law::an_epoch_ends_by_its_ends;
@@ -87,6 +90,7 @@ pub use rows::MadeTx;
 pub use runs::{one_line, run_lines};
 pub use said::StatementLog;
 pub use said_law::said_in_a_world;
+pub use shared_tx::SharedTx;
 pub use shows::{object_line, shown_lines};
 pub use votes::vote_text;
 pub use words::{object_text, tx_text};

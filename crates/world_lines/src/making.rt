@@ -13,12 +13,12 @@ ghost use Rattle.world_lines.specs.MakeAnswers.{Says};
 
 use crate::commands::commands_of;
 use crate::inputs::{HeldDigests, inputs_of, reference_of, spoiled_if};
-use crate::{Directory, MadeTx, TxLine};
+use crate::{Directory, MadeTx, SharedTx, TxLine};
 use chain_types::{Address, SignedTx, Transaction, encode_tx, has_long_list};
 use digest_core::{Digest, TAG_TRANSACTION, digest_of};
 use quorum_core::{KeyedSeal, Sealer, Signer};
 use std::alloc::Global;
-use wire_bcs::{Encoded, OutOfMemory, Seq};
+use wire_bcs::{OutOfMemory, Seq};
 
 /// A sealer whose seals are determined by the signer and the bytes: it accepts no other than the one that it makes.
 pub trait MakesSeals: Sealer {
@@ -92,7 +92,7 @@ fn sign<S: MakesSeals>(
     Ok(MadeTx {
         name: Seq::from_slice(alloc, name)?,
         digest,
-        signed: Encoded::of(SignedTx { tx, seal }, bytes),
+        signed: SharedTx::new(alloc, SignedTx { tx, seal }, bytes)?,
     })
 }
 

@@ -10,13 +10,14 @@ ghost use Rattle.world_spec.specs.World.{entries_at};
 ghost use Rattle.world_lines.specs.Ends.{end_read};
 ghost use Rattle.world_lines.specs.Orders.{AreSpelled, IsSpelled, entries_of, entry_in, has_ended_by, no_orders, open_in, risen_orders, row_entry, spelled_entry, with_entry};
 
+use crate::certificate::FormedCertificate;
 use crate::ends::{are_an_end, end_of, keep_end};
-use chain_messages::{Certificate, Entry, MemberSeal, encode_entry};
+use chain_messages::{Entry, MemberSeal, encode_entry};
 use quorum_core::{Committee, Sealer};
 use std::alloc::Global;
 use std::marker::Model;
 use std::snapshot::Snapshot;
-use wire_bcs::{Encoded, OutOfMemory, Seq, Writer};
+use wire_bcs::{OutOfMemory, Seq, Writer};
 
 /// In bytes: no record can keep an entry of this length or more.
 const TOO_LONG: u64 = 1 << 31;
@@ -24,7 +25,7 @@ const TOO_LONG: u64 = 1 << 31;
 /// What an entry is, for contracts only: of one that orders a certificate, the certificate.
 #[derive(Drop)]
 pub(crate) enum EntryView {
-    Cert(Snapshot<Certificate>),
+    Cert(Snapshot<FormedCertificate>),
     Whole(Snapshot<Entry>),
 }
 
@@ -59,7 +60,7 @@ fn spelled(alloc: Global, entry: &Entry) -> Result<OrderedRow, OutOfMemory>
 
 /// Writes the entry of a certificate: its number, and the certificate's encoding, which is not made again.
 #[tactic(auto, using(wire_bcs::specs::Wrote::parts), unfolding(chain_messages::specs::Messages::entry))]
-fn write_cert(writer: &mut Writer, cert: &Encoded<Certificate>) -> Result<(), OutOfMemory>
+fn write_cert(writer: &mut Writer, cert: &FormedCertificate) -> Result<(), OutOfMemory>
     ensures { Writes writer.old writer.new (codecs.entry.spell (entries.Cert cert.now)) result }
 {
     writer.put_tag(0)?;
@@ -69,14 +70,13 @@ fn write_cert(writer: &mut Writer, cert: &Encoded<Certificate>) -> Result<(), Ou
 
 /// The entry that orders a certificate, from the encoding that the certificate has already; the certificate is not
 /// copied.
-fn spelled_cert(alloc: Global, cert: &Encoded<Certificate>) -> Result<OrderedRow, OutOfMemory>
+fn spelled_cert(alloc: Global, cert: &FormedCertificate) -> Result<OrderedRow, OutOfMemory>
     ensures spelled { IfOk result IsSpelled }
     ensures entry { IfOk result (λ row. row_entry row ≡ entries.Cert cert.now) }
 {
     let mut writer = Writer::with_room(alloc, cert.bytes().len().saturating_add(1))?;
     write_cert(&mut writer, cert)?;
-    let what = Snapshot::of(cert.value());
-    ordered_row(EntryView::Cert(what), writer.finish())
+    ordered_row(EntryView::Cert(Snapshot::of(cert)), writer.finish())
 }
 
 /// The bytes of the entry of this number.
@@ -178,7 +178,7 @@ impl ConsensusLog {
     /// Orders a certificate at the end of the open epoch's sequence; it is neither copied nor encoded again. A refusal
     /// changes nothing.
     #[tactic(auto, using(crate::proofs::Ordering::keepable_all))]
-    pub fn push_cert(&mut self, cert: &Encoded<Certificate>) -> Result<(), OutOfMemory>
+    pub fn push_cert(&mut self, cert: &FormedCertificate) -> Result<(), OutOfMemory>
         ensures ok { OnOk result (self.new ≡ with_entry self.old (entries.Cert cert.now)) }
         ensures err { OnErr result (self.new ≡ self.old) }
         ensures keepable { AreKeepable self.new.sequences }

@@ -3,17 +3,18 @@
 ghost use Rattle.std.specs.Prelude.{◌≡◌};
 ghost use Rattle.world_lines.specs.Drawn.{row_as};
 
-use chain_types::{ObjectId, SignedTx};
+use crate::shared_tx::SharedTx;
+use chain_types::ObjectId;
 use digest_core::{Digest, created_id};
 use tables::{Keyed, Named};
-use wire_bcs::{Encoded, Seq};
+use wire_bcs::Seq;
 
 /// A transaction by the name of its line, with its encoding, which each vote for it takes.
 #[derive(Debug, Drop)]
 pub struct MadeTx {
     pub name: Seq<u8>,
     pub digest: Digest,
-    pub signed: Encoded<SignedTx>,
+    pub signed: SharedTx,
 }
 
 /// A set-up object's name and id.

@@ -1,4 +1,4 @@
-use Rattle.std.proofs.Common.{◌∙◌, ◌+◌, List, None, ap, drop, fold, map, subst, sym, ℕ}
+use Rattle.std.proofs.Common.{◌∙◌, ◌+◌, List, None, Some, ap, drop, fold, map, subst, sym, ℕ}
 use Rattle.std.specs.Prelude.{option_copied}
 use Rattle.chain_messages.specs.declared.messages.Certificate.{Certificate}
 use Rattle.protocol_spec.specs.Chain.Certificates.{rules_of}
@@ -19,7 +19,7 @@ loop-place-preserved g c =
     record {
       certs =
           ap (λ (certs : List Certificate). fold (with_valid rules) certs (map cert_in (drop (c.loop-place.place + 1) c.args.world.now.certs)))
-          (c.in_ok-add.ensures.certs ∙ ap (λ (stakes : List ℕ). with_valid (rules_of stakes None (g.S.Checker.accepts c.args.sealer.now)) c.loop-place.found.certs c.in-Some.cert.now) c.committee.ensures)
-          ∙ one_formed rules c.loop-place.found.certs c.args.world.now.certs c.loop-place.place c.in-Some.cert.now (sym c.in-Some.ensures.value) ∙ c.loop-place.invariant.certs;
+          (c.in_ok-add.ensures.certs ∙ ap (λ (stakes : List ℕ). with_valid (rules_of stakes None (g.S.Checker.accepts c.args.sealer.now)) c.loop-place.found.certs c.in_ok-cert.cert) c.committee.ensures)
+          ∙ one_formed rules c.loop-place.found.certs c.args.world.now.certs c.loop-place.place c.in_ok-cert.cert (sym c.in-Some.ensures.value ∙ ap Some (sym c.in_ok-cert.ensures)) ∙ c.loop-place.invariant.certs;
       found = subst (λ (stakes : List ℕ). AreFound stakes c.add.new.self.certs c.add.new.self.spelled) c.committee.ensures c.in_ok-add.ensures.found;
     }

@@ -21,10 +21,10 @@ returns-then-not-is_whole-clause-lines g c =
 
 pub returns-clause-world : goal.returns-clause-world
 returns-clause-world g c =
-    form_whole (trust_by (g.S.MakesSeals.made c.args._sealer.now) (g.S.Checker.accepts c.args._sealer.now)) (let v : Scene = record { terms = c.self.inside.seats.terms; opening = c.self.inside.opening; known = c.self.inside.directory; sequences = c.self.inside.order.sequences; epoch = c.self.inside.order.epoch; said = c.self.inside.said; certs = c.self.inside.certs; posts = c.self.inside.seats.posts } in v) c.args.self.now c.args.tx.now c.args.members.now c.in-Some.made.now c.collect-collected.result c.is_whole.result c.in_ok-encoded.encoded c.add.new.self c.self.view_is
+    form_whole (trust_by (g.S.MakesSeals.made c.args._sealer.now) (g.S.Checker.accepts c.args._sealer.now)) (let v : Scene = record { terms = c.self.inside.seats.terms; opening = c.self.inside.opening; known = c.self.inside.directory; sequences = c.self.inside.order.sequences; epoch = c.self.inside.order.epoch; said = c.self.inside.said; certs = c.self.inside.certs; posts = c.self.inside.seats.posts } in v) c.args.self.now c.args.tx.now c.args.members.now c.in-Some.made.now c.collect-collected.result c.is_whole.result c.in_ok-cert.cert c.add.new.self c.self.view_is
     (sym (ap (λ x. option_map made_as (option_copied x)) c.in-Some.is) ∙ c.made.ensures)
-    (collected_here c.self.inside.said c.in-Some.made.now.digest c.args.members.now _ _ _ _ _ c.collect-collected.ensures c.committee.ensures c.value.ensures) c.is_whole.ensures c.if-not-is_whole.false (c.in_ok-encoded.ensures ∙ c.in_ok-cert.ensures.cert)
-    (c.in_ok-add.ensures.ok ∙ ap (λ n. c.self.inside.certs ++ (let f : Formed = record { name = n; cert = c.in_ok-encoded.encoded } in f) ∷ []) c.as_slice.ensures.value)
+    (collected_here c.self.inside.said c.in-Some.made.now.digest c.args.members.now _ _ _ _ _ c.collect-collected.ensures c.committee.ensures c.value.ensures) c.is_whole.ensures c.if-not-is_whole.false c.in_ok-cert.ensures.cert
+    (c.in_ok-add.ensures.ok ∙ ap (λ n. c.self.inside.certs ++ (let f : Formed = record { name = n; cert = c.in_ok-cert.cert } in f) ∷ []) c.as_slice.ensures.value)
 
 pub returns-clause-lines : goal.returns-clause-lines
 returns-clause-lines g c =
