@@ -27,7 +27,7 @@ impl Model for SharedTx {
 
 impl SharedTx {
     /// With one owner, of a transaction that these bytes encode.
-    pub fn new(
+    pub(crate) fn new(
         alloc: Global,
         signed: SignedTx,
         bytes: Seq<u8>,
@@ -40,7 +40,7 @@ impl SharedTx {
     }
 
     /// One more owner of it. The only error is that 2^63 have it, and takes no memory.
-    pub fn share(&self) -> Result<SharedTx, OutOfMemory>
+    pub(crate) fn share(&self) -> Result<SharedTx, OutOfMemory>
         ensures { IfOk result (λ s. s ≡ self.now) }
     {
         let signed = Arc::try_clone(&self.signed)?;
@@ -63,7 +63,7 @@ impl SharedTx {
 
     /// The encoding of the transaction without its seal, which ends the other. Takes no memory.
     #[tactic(auto, using(crate::proofs::Spelled::without_seal))]
-    pub fn tx_bytes(&self) -> &[u8]
+    pub(crate) fn tx_bytes(&self) -> &[u8]
         ensures { result.now ≡ codecs.transaction.spell self.now.tx }
     {
         let bytes = self.bytes();
