@@ -51,9 +51,13 @@ fn write_certificate(
     Ok(())
 }
 
-/// In bytes: how much an encoding takes beside the transaction's and those of the lists' items, and what an item takes at most.
-const LISTS: usize = 10;
+/// In bytes: the most that the lengths of the two lists take.
+const LENGTHS: usize = 10;
+
+/// In bytes: the most that an origin takes.
 const ORIGIN: usize = 33;
+
+/// In bytes: what a member's seal takes.
 const SEAL: usize = 36;
 
 /// The encoding of the certificate of a transaction.
@@ -69,7 +73,11 @@ fn encoded(
     let lists = (origins.len() as usize)
         .saturating_mul(ORIGIN)
         .saturating_add((seals.len() as usize).saturating_mul(SEAL));
-    let room = signed.tx_bytes().len().saturating_add(lists).saturating_add(LISTS);
+    let room = signed
+        .tx_bytes()
+        .len()
+        .saturating_add(lists)
+        .saturating_add(LENGTHS);
     let mut writer = Writer::with_room(alloc, room)?;
     write_certificate(&mut writer, signed, origins, seals)?;
     Ok(writer.finish())
