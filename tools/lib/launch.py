@@ -29,6 +29,10 @@ class Launch:
     def say(self, text):
         print(f"{self.name}: {text}", file=sys.stderr, flush=True)
 
+    def of_prove(self):
+        """What ./prove is told to prove this program: nothing for committee, which it proves by itself."""
+        return "" if self.name == "committee" else f" {self.name}"
+
     def program(self):
         """The program to run: the proved one or the kept unproved one; none if there is neither, and standard error says why."""
         at = programs.proved(self.name)
@@ -41,7 +45,7 @@ class Launch:
             if at is None:
                 return None
         if at:
-            self.say("UNPROVED build (./prove makes the proved program)")
+            self.say(f"UNPROVED build (./prove{self.of_prove()} makes the proved program)")
         return at or self.by_try()
 
     def built(self, build):
@@ -65,16 +69,16 @@ class Launch:
 
     def by_try(self):
         """Runs a build of this time alone, where none can be kept. The words may name no file: the run is not in this folder."""
-        self.say("UNPROVED build, made for this run: 60 seconds and 1 MiB of output at most (./prove makes the proved program)")
+        self.say(f"UNPROVED build, made for this run: 60 seconds and 1 MiB of output at most (./prove{self.of_prove()} makes the proved program)")
         if "in" in self.words:
-            self.say("`in FILE` needs the proved program, since this kit's unproved run keeps no file: ./prove")
+            self.say(f"`in FILE` needs the proved program, since this kit's unproved run keeps no file: ./prove{self.of_prove()}")
             return None
         with kept.Moving(f"{self.name}: building the sources without a proof: a minute or two on an idle machine"):
             ran = subprocess.run(["rt", "try", "--", *self.words], cwd=f"{crates.TOP}/crates/{self.name}", capture_output=True)
         said = ran.stderr.decode(errors="replace")
         ended = re.match(r"run=ended status=(\d+) ", said.splitlines()[-1] if said else "")
         if not ended:
-            self.say("the unproved run gave no answer. Make the schedule smaller, or build the proved program: ./prove")
+            self.say(f"the unproved run gave no answer. Make the schedule smaller, or build the proved program: ./prove{self.of_prove()}")
             return None
         sys.stdout.buffer.write(ran.stdout)
         sys.stdout.flush()
