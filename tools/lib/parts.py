@@ -14,6 +14,7 @@ EXAMPLES = ("example_client", "example_file", "example_payment")
 
 PARTS = (
     Part("edits that must fail", ("tools/edits", "--check"), early=True),
+    Part("layout of the sources", ("tools/layout", "--check"), early=True),
     Part("crates and paths", ("tools/paths", "--check"), early=True),
     Part("statements that stand twice", ("tools/twice", "--check"), early=True),
     Part("what nothing uses", ("tools/unused", "--check"), early=True),
