@@ -56,6 +56,9 @@ class Launch:
         except OSError as fault:
             self.say(f"{fault.filename or build.place}: {fault.strerror}, so the unproved build is not kept")
             return ""
+        except KeyboardInterrupt:
+            self.say("the build was interrupted; the next run begins it again")
+            raise
         if came == kept.KEPT:
             return build.stands()
         if came == kept.NOT_BUILT:
