@@ -17,7 +17,7 @@ use Rattle.disk_log.proofs.Listing.{length-journals}
 use Rattle.disk_log.proofs.Reading.{keeps}
 use Rattle.disk_log.proofs.Running.{counts-many, lists-on}
 use Rattle.run_law.proofs.SceneRecords.{front-set}
-use Rattle.committee_core.specs.Calling.{HasGrown, IsNextOf, call_count, call_lists, unfinished_behind, with_unfinished}
+use Rattle.committee_core.specs.Calling.{HasGrown, IsNextOf, call_count, call_lists, unfinished_behind}
 use Rattle.committee_core.specs.declared.call_log.Unfinished.{Unfinished}
 
 -- ---- one record more

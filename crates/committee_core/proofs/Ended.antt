@@ -1,5 +1,5 @@
 -- A text that was read whole, and what the laws of whole runs give for it.
-use Rattle.std.proofs.Common.{◌≡◌, ℕ, List, ◌++◌, Option, Ok, Err, ◌⊎◌, inl, inr, sym, subst}
+use Rattle.std.proofs.Common.{◌≡◌, ℕ, List, ◌++◌, Option, Ok, Err, inr, sym, subst}
 use Rattle.std.specs.Io.KnownBytes.{Appends}
 use Rattle.outside.specs.Lists.{Journals, KeepsJournals}
 use Rattle.schedule_text.specs.declared.words.Event.{Event}
@@ -62,10 +62,3 @@ bad left left' held held' kept text read (s, is, meets) = record {
   meets = meets;
   holds = holds_along text s is;
 }
-
--- a keeper's fault, or a bad record
-pub kept_fault : {R : Type 0} (left left' held held' : Option (List ℕ)) (kept kept' : Option Journals) (text : List ℕ) → ReadsText longest_text left left' text
-    → (R × TextCut program_trust (schedule_of text) held held' kept kept') ⊎ ((s : Schedule) × (schedule_of text ≡ Ok s) × MeetsBadRecord program_trust s Appends held held' kept)
-    → (R × IsCut left left' held held' kept kept') ⊎ IsBad left left' held held' kept
-kept_fault left left' held held' kept kept' text read (inl (rose, ends)) = inl (rose, cut left left' held held' kept kept' text read ends)
-kept_fault left left' held held' kept kept' text read (inr meets) = inr (bad left left' held held' kept text read meets)

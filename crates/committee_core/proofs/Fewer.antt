@@ -1,6 +1,5 @@
 -- The lists of a log without the record whose append met a fault of the disk: a command may have ended with them, as with all.
-use Rattle.std.proofs.Common.{◌≡◌, ◌⊎◌, inl, inr, ℕ, ◌+◌, ◌<◌, ◌≤◌, List, [], ◌∷◌, ◌++◌, length, replicate, refl, sym, ◌∙◌, ap, subst, arith, Option, Some, None, Result, Ok, Err}
-use Rattle.std.specs.Io.KnownBytes.{Keeps}
+use Rattle.std.proofs.Common.{◌≡◌, ◌⊎◌, inl, inr, ℕ, ◌<◌, ◌≤◌, List, [], ◌∷◌, ◌++◌, length, replicate, refl, sym, ◌∙◌, ap, subst, arith, Option, Some, None, Result, Ok, Err}
 use Rattle.digest_core.specs.declared.Digest.{Digest}
 use Rattle.outside.specs.Causes.{Rose}
 use Rattle.outside.specs.Lists.{Journals, KeepsJournals, journal_of, with_record}
@@ -12,7 +11,7 @@ use Rattle.world_spec.specs.Run.{journal}
 use Rattle.world_spec.specs.Setting.{Trust}
 use Rattle.command_words.specs.declared.words.Command.{Command}
 use Rattle.command_words.specs.declared.words.Command.TheVariants as command
-use Rattle.disk_log.specs.Disk.{AreSeen, History, IfTold, IsImage, moments}
+use Rattle.disk_log.specs.Disk.{AreSeen, History, IfTold, moments}
 use Rattle.disk_log.specs.Keeping.{LogState, told_lists}
 use Rattle.disk_log.specs.Records.{Record, counted, journals_of, records_to}
 use Rattle.disk_log.proofs.Listing.{added_to-push, length-journals}
@@ -20,14 +19,14 @@ use Rattle.committee_core.specs.Calling.{CallState, IsCalling, call_lists, recor
 use Rattle.committee_core.specs.Desk.{DeskEnds}
 use Rattle.committee_core.specs.Endings.{BeginsEmpty, CheckEnds, Ends, IsUnused, RunEnds}
 use Rattle.committee_core.specs.Follow.{FollowEnds, FollowsBad, FollowsFront, FrontOf, unrefused, unrun, unsaid}
-use Rattle.committee_core.specs.Headline.{IsBad, IsCut, WritesFront, program_trust}
+use Rattle.committee_core.specs.Headline.{IsBad, IsCut, program_trust}
 use Rattle.committee_core.specs.InFile.{EndsOver, LeavesEndings, kept_in, most_members}
 use Rattle.committee_core.specs.Journals.{KeepsFronts}
 use Rattle.committee_core.specs.Make.{MakeEnds, MakesFront}
 use Rattle.committee_core.specs.Outside.{Outside, outside}
 use Rattle.committee_core.specs.Replay.{ReplayEnds}
 use Rattle.committee_core.specs.Report.{setting_in}
-use Rattle.committee_core.specs.Ways.{RunsCut, RunsFront, TextCut}
+use Rattle.committee_core.specs.Ways.{RunsCut, TextCut}
 use Rattle.committee_core.specs.declared.call_log.Unfinished.{Unfinished}
 use Rattle.committee_core.proofs.Calling.{call_holds}
 use Rattle.committee_core.proofs.CallLists.{front-more, one-longer}

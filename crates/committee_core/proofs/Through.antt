@@ -27,7 +27,7 @@ use Rattle.headline_law.specs.Followed as law
 use Rattle.headline_law.proofs.Catching.{come-through-in-schedules}
 use Rattle.committee_core.specs.declared.verdict.Verdict.{Verdict}
 use Rattle.committee_core.specs.declared.verdict.Verdict.TheVariants as verdict
-use Rattle.committee_core.specs.Follow.{ComesTo, IsThrough, IsVerdictBehind, LeavesObjects, asked_in, follower_of, state_in}
+use Rattle.committee_core.specs.Follow.{ComesTo, IsThrough, IsVerdictBehind, LeavesObjects, asked_in, state_in}
 use Rattle.committee_core.specs.Headline.{program_trust}
 use Rattle.committee_core.specs.Report.{setting_in}
 

@@ -3,7 +3,6 @@ use Rattle.std.proofs.Common.{◌≡◌, ◌⊎◌, inl, inr, ℕ, zero, suc, �
 use Rattle.std.specs.Prelude.{IfOk}
 use Rattle.std.specs.List.{flat_map, list_all}
 use Rattle.std.specs.Io.KnownBytes.{Appends}
-use Rattle.wire_bcs.specs.Place.{Stop}
 use Rattle.outside.specs.Lists.{Journals, journal_of}
 use Rattle.outside.specs.Streams.{AppendsFront, ReadsText}
 use Rattle.chain_types.specs.declared.objects.Object.{Object}
@@ -243,3 +242,14 @@ said_refusal r trust callers read why is said = subst (λ (q : Result Schedule R
     go : {E : Type 0} (q : Result Said E) → IfOk q (λ x. x ≡ record { status = 3; text = refusal_text why }) → IfOk q (λ x. EndsAs trust callers (Err why) x.status x.text)
     go (Ok x) is = (ap (λ (y : Said). y.status) is, ap (λ (y : Said). y.text) is)
     go (Err e) is = tt
+
+-- ---- what is said of each schedule that a world may be of, and of one
+
+module _ {A E S : Type 0} (T H : S → Type 0) (P : S → A → Type 0) where
+  pub of_each : (r : Result A E) → ((s : S) → T s → H s → IfOk r (P s)) → IfOk r (λ a. (s : S) → T s → H s → P s a)
+  of_each (Ok a) all = all
+  of_each (Err e) all = tt
+
+  pub of_one : (r : Result A E) (s : S) → T s → H s → IfOk r (λ a. (s : S) → T s → H s → P s a) → IfOk r (P s)
+  of_one (Ok a) s t h all = all s t h
+  of_one (Err e) s t h all = tt

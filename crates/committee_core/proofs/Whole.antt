@@ -15,7 +15,6 @@ use Rattle.world_core.specs.Trusts.{trust_by}
 use Rattle.committee_core.specs.Headline.{program_trust}
 use Rattle.committee_core.specs.Journals.{AreEmpty, KeepsFronts, KeepsRun}
 use Rattle.committee_core.specs.Report.{refusal_text, report_text, setting_in}
-use Rattle.outside.specs.Streams.{AppendsFront}
 use Rattle.committee_core.specs.Ways.{RunsCut, RunsSilently, RunsWhole, ShowsRun, TextCut}
 use Rattle.validator_core.proofs.Settling.{keeps_same}
 
@@ -35,9 +34,6 @@ nothing_done trust (Err r) held start empty = (([], refusal_text r, refl, Append
 
 pub schedule_cut : (trust : Trust) (text : List ℕ) (s : Schedule) (held held' : Option (List ℕ)) (kept kept' : Option Journals) → schedule_of text ≡ Ok s → RunsCut trust s held held' kept kept' → TextCut trust (schedule_of text) held held' kept kept'
 schedule_cut trust text s held held' kept kept' is cut = subst (λ (r : Result Schedule Refused). TextCut trust r held held' kept kept') (sym is) cut
-
-pub refusal_cut : (trust : Trust) (text : List ℕ) (r : Refused) (held held' : Option (List ℕ)) (kept : Option Journals) → schedule_of text ≡ Err r → AppendsFront held held' (refusal_text r) → TextCut trust (schedule_of text) held held' kept kept
-refusal_cut trust text r held held' kept is cut = subst (λ (x : Result Schedule Refused). TextCut trust x held held' kept kept) (sym is) (cut, keeps_same kept)
 
 -- ---- the program's seals
 

@@ -4,7 +4,7 @@ use Rattle.outside.specs.Causes.{Rose}
 use Rattle.outside.specs.Lists.{Journals, journal_of, with_record}
 use Rattle.disk_log.specs.Disk.{History, IfTold, IsImage}
 use Rattle.disk_log.specs.Keeping.{LogState, told_lists}
-use Rattle.disk_log.specs.Records.{Record, bad_member, counted, journals_of, records_to}
+use Rattle.disk_log.specs.Records.{Record, bad_member, counted, records_to}
 use Rattle.disk_log.specs.declared.refusals.LogRefusal.{LogRefusal}
 use Rattle.disk_log.specs.declared.refusals.LogRefusal.TheVariants as log
 use Rattle.committee_core.specs.InFile.{most_members}

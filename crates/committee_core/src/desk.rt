@@ -213,13 +213,13 @@ fn calls_in<R: Threads + Wait + Sync, S: Sealer + Drop + Send + Sync>(
 fn world_of<R: Threads + Sync, S: MakesSeals>(
     rt: &R,
     alloc: Global,
-    schedule: &Schedule,
+    schedule: Schedule,
     sealer: &S,
 ) -> Result<World, OutOfMemory>
-    requires committee { committee_of (stakes_of schedule.now.setup) ≡ Ok (stakes_of schedule.now.setup) }
+    requires committee { committee_of (stakes_of schedule.setup) ≡ Ok (stakes_of schedule.setup) }
     requires laws { SceneLaws (trust_by (S.made sealer.now) (S.accepts sealer.now)) }
-    requires along { StartsAlong (setting_in (trust_by (S.made sealer.now) (S.accepts sealer.now)) schedule.now) schedule.now.events }
-    ensures { IfOk result (Shows (trust_by (S.made sealer.now) (S.accepts sealer.now)) (setting_in (trust_by (S.made sealer.now) (S.accepts sealer.now)) schedule.now) (desk_world (trust_by (S.made sealer.now) (S.accepts sealer.now)) schedule.now)) }
+    requires along { StartsAlong (setting_in (trust_by (S.made sealer.now) (S.accepts sealer.now)) schedule) schedule.events }
+    ensures { IfOk result (Shows (trust_by (S.made sealer.now) (S.accepts sealer.now)) (setting_in (trust_by (S.made sealer.now) (S.accepts sealer.now)) schedule) (desk_world (trust_by (S.made sealer.now) (S.accepts sealer.now)) schedule)) }
 {
     let mut keeper = SureKeeper::new(alloc, MOST_MEMBERS)?;
     match run_schedule(
@@ -256,14 +256,11 @@ fn said_in<R: Threads + Wait + Sync, S: MakesSeals + Drop + Send + Sync>(
     alloc: Global,
     callers: u32,
     world: &World,
-    schedule: &Schedule,
     sealer: S,
 ) -> Result<Said, OutOfMemory>
     requires some { 0 < callers }
     requires few { callers ≤ 16 }
-    requires txs { are_txs schedule.now ≡ true }
-    requires shows { Shows (trust_by (S.made sealer) (S.accepts sealer)) (setting_in (trust_by (S.made sealer) (S.accepts sealer)) schedule.now) (desk_world (trust_by (S.made sealer) (S.accepts sealer)) schedule.now) world.now }
-    ensures { IfOk result (λ said. EndsBy true (is_honest (new_world (setting_in (trust_by (S.made sealer) (S.accepts sealer)) schedule.now)) 0) (trust_by (S.made sealer) (S.accepts sealer)) callers schedule.now said.status said.text) }
+    ensures { IfOk result (λ said. (s : Schedule) → are_txs s ≡ true → Shows (trust_by (S.made sealer) (S.accepts sealer)) (setting_in (trust_by (S.made sealer) (S.accepts sealer)) s) (desk_world (trust_by (S.made sealer) (S.accepts sealer)) s) world.now → EndsBy true (is_honest (new_world (setting_in (trust_by (S.made sealer) (S.accepts sealer)) s)) 0) (trust_by (S.made sealer) (S.accepts sealer)) callers s said.status said.text) }
 {
     if !world.is_honest(0) {
         return said_line(alloc, NEGATIVE, b"desk: no honest member\n".as_slice());
@@ -278,22 +275,22 @@ fn said_of<R: Threads + Wait + Sync, S: MakesSeals + Drop + Send + Sync>(
     rt: &R,
     alloc: Global,
     callers: u32,
-    schedule: &Schedule,
+    schedule: Schedule,
     sealer: S,
 ) -> Result<Said, OutOfMemory>
     requires some { 0 < callers }
     requires few { callers ≤ 16 }
-    requires committee { committee_of (stakes_of schedule.now.setup) ≡ Ok (stakes_of schedule.now.setup) }
+    requires committee { committee_of (stakes_of schedule.setup) ≡ Ok (stakes_of schedule.setup) }
     requires laws { SceneLaws (trust_by (S.made sealer) (S.accepts sealer)) }
-    requires along { StartsAlong (setting_in (trust_by (S.made sealer) (S.accepts sealer)) schedule.now) schedule.now.events }
-    ensures { IfOk result (λ said. EndsBy (are_txs schedule.now) (is_honest (new_world (setting_in (trust_by (S.made sealer) (S.accepts sealer)) schedule.now)) 0) (trust_by (S.made sealer) (S.accepts sealer)) callers schedule.now said.status said.text) }
+    requires along { StartsAlong (setting_in (trust_by (S.made sealer) (S.accepts sealer)) schedule) schedule.events }
+    ensures { IfOk result (λ said. EndsBy (are_txs schedule) (is_honest (new_world (setting_in (trust_by (S.made sealer) (S.accepts sealer)) schedule)) 0) (trust_by (S.made sealer) (S.accepts sealer)) callers schedule said.status said.text) }
 {
     if !only_tx(schedule.events.as_slice()) {
         return said_line(alloc, NEGATIVE, b"desk: only tx lines\n".as_slice());
     }
     match world_of(rt, alloc, schedule, &sealer) {
         Ok(world) => {
-            let said = said_in(rt, alloc, callers, &world, schedule, sealer);
+            let said = said_in(rt, alloc, callers, &world, sealer);
             drop(world);
             said
         }
@@ -340,7 +337,7 @@ fn said_of_text<R: Threads + Wait + Sync, S: MakesSeals + Drop + Send + Sync>(
     ensures { IfOk result (λ said. EndsAs (trust_by (S.made sealer) (S.accepts sealer)) callers (schedule_of text.now) said.status said.text) }
 {
     match read_schedule(alloc, text) {
-        Ok(schedule) => said_of(rt, alloc, callers, &schedule, sealer),
+        Ok(schedule) => said_of(rt, alloc, callers, schedule, sealer),
         Err(ScheduleRefusal::Refused { line, cause }) => said_refused(alloc, line, cause),
         Err(ScheduleRefusal::OutOfMemory) => Err(OutOfMemory),
     }

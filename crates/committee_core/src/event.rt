@@ -81,29 +81,8 @@ pub(crate) fn write_bad_record<K: Sink>(
     written
 }
 
-/// Takes one event, and gives its lines. `room`: the keeper has a list for each member.
-#[tactic(auto, using(crate::proofs::Taken::taken_as, crate::proofs::Taken::left_as, crate::proofs::Taken::bad_as, crate::proofs::Taken::stay_as))]
-fn take_event<R: Threads + Sync, S: MakesSeals, D: Keeper>(
-    rt: &R,
-    world: &mut World,
-    event: &Event,
-    sealer: &S,
-    keeper: &mut D,
-) -> Result<Seq<Line>, WorldFault>
-    requires room { length world.old.posts ≤ D.width keeper.old }
-    ensures taken { IfOk result (IsTaken (trust_by (S.made sealer.now) (S.accepts sealer.now)) event.now world.old world.new (D.lists keeper.old) (D.lists keeper.new)) }
-    ensures left { OnErr result (MayAddLine (records_left (rules_in (S.accepts sealer.now) world.old) world.old (work_of world.old event.now)) (D.lists keeper.old) (D.lists keeper.new)) }
-    ensures bad { (member place : ℕ) → IsErrOf result (fault.BadRecord member place) → ReadsBad (trust_by (S.made sealer.now) (S.accepts sealer.now)) event.now world.old (D.lists keeper.old) member place }
-    ensures stay { OnOk result (length world.new.posts ≡ length world.old.posts) }
-    ensures width { D.width keeper.new ≡ D.width keeper.old }
-    ensures later { D.failed keeper.old ≤ D.failed keeper.new }
-    ensures fault { IsErrOf result fault.KeepFault → Rose (D.failed keeper.old) (D.failed keeper.new) }
-{
-    world.step(rt, keeper, sealer, event)
-}
-
 /// Takes one event, and writes its lines. `room`: the keeper has a list for each member.
-#[tactic(auto, using(crate::proofs::Written::passes_as, crate::proofs::Written::cut_taken, crate::proofs::Written::cut_untaken, crate::proofs::Written::cut_bad, crate::proofs::Written::said_bad))]
+#[tactic(auto, using(crate::proofs::Taken::taken_as, crate::proofs::Taken::left_as, crate::proofs::Taken::bad_as, crate::proofs::Taken::stay_as, crate::proofs::Written::passes_as, crate::proofs::Written::cut_taken, crate::proofs::Written::cut_untaken, crate::proofs::Written::cut_bad, crate::proofs::Written::said_bad))]
 pub(crate) fn run_event<R: Threads + Sync, S: MakesSeals, K: Sink, D: Keeper>(
     rt: &R,
     alloc: Global,
@@ -124,7 +103,7 @@ pub(crate) fn run_event<R: Threads + Sync, S: MakesSeals, K: Sink, D: Keeper>(
     ensures kept_later { D.failed keeper.old ≤ D.failed keeper.new }
     ensures keep_fault { IsErrOf result stop.KeepFault → Rose (D.failed keeper.old) (D.failed keeper.new) }
 {
-    match take_event(rt, world, event, sealer, keeper) {
+    match world.step(rt, keeper, sealer, event) {
         Ok(lines) => match write_lines(alloc, &lines, sink) {
             Ok(()) => Ok(()),
             Err(OutFault::Failed) => Err(Stop::WriteFault),

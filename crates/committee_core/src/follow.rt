@@ -15,10 +15,9 @@ ghost use Rattle.committee_core.specs.Report.{refusal_text};
 ghost use Rattle.committee_core.specs.Ways.{MeetsBadRecord, TextCut};
 ghost use Rattle.committee_core.specs.declared.silent.Unrun.TheVariants as unrun;
 
-use crate::replay::say_refused;
 use crate::silent::{Unrun, world_behind};
 use crate::status::{KEEP_FAULT, OUT_OF_MEMORY, READ_FAULT, WRITE_FAULT};
-use crate::text::LONGEST_TEXT;
+use crate::text::{LONGEST_TEXT, say_refused};
 use crate::verdict::{Verdict, verdict_behind, verdict_line, verdict_status};
 use outside::{Keeper, OutFault, Sink, Source, read_text, write_all};
 use std::alloc::Global;

@@ -28,7 +28,7 @@ use crate::seals::program_sealer;
 use crate::status::{
     DONE, KEEP_FAULT, NEGATIVE, NO_SCHEDULE, OUT_OF_MEMORY, READ_FAULT, WRITE_FAULT,
 };
-use crate::text::{LONGEST_TEXT, refuse};
+use crate::text::{LONGEST_TEXT, say_refused};
 use outside::{Keeper, OutFault, Sink, Source, read_text, write_all};
 use report_text::{Line, RestartText, print_line};
 use schedule_text::{Schedule, ScheduleRefusal, read_schedule};
@@ -150,20 +150,6 @@ fn say_no_member<K: Sink>(alloc: Global, member: u32, sink: &mut K) -> u8
 {
     match write_no_member(alloc, member, sink) {
         Ok(()) => NEGATIVE,
-        Err(OutFault::Failed) => WRITE_FAULT,
-        Err(OutFault::OutOfMemory) => OUT_OF_MEMORY,
-    }
-}
-
-/// Writes why a text is not a schedule. Answers the status.
-pub(crate) fn say_refused<K: Sink>(alloc: Global, line: u64, cause: u8, sink: &mut K) -> u8
-    ensures known { (result ≡ 3) ⊎ (result ≡ 5) ⊎ (result ≡ 7) }
-    ensures written { result ≡ 3 → Appends (K.held sink.old) (K.held sink.new) (text_of (report_line.Refused line cause)) }
-    ensures write_fault { result ≡ 5 → Rose (K.faults sink.old) (K.faults sink.new) }
-    ensures cut { (result ≡ 5) ⊎ (result ≡ 7) → AppendsFront (K.held sink.old) (K.held sink.new) (text_of (report_line.Refused line cause)) }
-{
-    match refuse(alloc, line, cause, sink) {
-        Ok(()) => NO_SCHEDULE,
         Err(OutFault::Failed) => WRITE_FAULT,
         Err(OutFault::OutOfMemory) => OUT_OF_MEMORY,
     }

@@ -24,37 +24,6 @@ use wire_bcs::OutOfMemory;
 use world_core::{World, WorldRefusal};
 use world_lines::MakesSeals;
 
-/// Runs the events in order, from the world of the set-up on.
-fn run_events<R: Threads + Sync, S: MakesSeals, K: Sink, D: Keeper>(
-    rt: &R,
-    alloc: Global,
-    world: &mut World,
-    schedule: &Schedule,
-    sealer: &S,
-    sink: &mut K,
-    keeper: &mut D,
-) -> Result<(), Stop>
-    requires opened { world.old ≡ new_scene (setting_in (trust_by (S.made sealer.now) (S.accepts sealer.now)) schedule.now) schedule.now.setup }
-    requires room { length world.old.posts ≤ D.width keeper.old }
-    requires wide { AreAtLeast (D.lists keeper.old) (length world.old.posts) }
-    requires empty { AreEmpty (D.lists keeper.old) }
-    requires laws { SceneLaws (trust_by (S.made sealer.now) (S.accepts sealer.now)) }
-    requires along { StartsAlong (setting_in (trust_by (S.made sealer.now) (S.accepts sealer.now)) schedule.now) schedule.now.events }
-    ensures ok { OnOk result (RunsWhole (trust_by (S.made sealer.now) (S.accepts sealer.now)) schedule.now (K.held sink.old) (K.held sink.new) (D.lists keeper.old) (D.lists keeper.new)) }
-    ensures shows { OnOk result (ShowsRun (trust_by (S.made sealer.now) (S.accepts sealer.now)) schedule.now (D.lists keeper.old) world.new) }
-    ensures cut { OnErr result (RunsCut (trust_by (S.made sealer.now) (S.accepts sealer.now)) schedule.now (K.held sink.old) (K.held sink.new) (D.lists keeper.old) (D.lists keeper.new)) }
-    ensures bad { IsErrOf result stop.BadRecord → MeetsBadRecord (trust_by (S.made sealer.now) (S.accepts sealer.now)) schedule.now Appends (K.held sink.old) (K.held sink.new) (D.lists keeper.old) }
-    ensures later { K.faults sink.old ≤ K.faults sink.new }
-    ensures fault { IsErrOf result stop.WriteFault → Rose (K.faults sink.old) (K.faults sink.new) }
-    ensures kept_later { D.failed keeper.old ≤ D.failed keeper.new }
-    ensures keep_fault { IsErrOf result stop.KeepFault → Rose (D.failed keeper.old) (D.failed keeper.new) }
-{
-    for event in schedule.events.as_slice() {
-        run_event(rt, alloc, world, event, sealer, sink, keeper)?;
-    }
-    Ok(())
-}
-
 /// Whether a count of faults rose. One that stands at its last value is taken as risen. Takes no memory.
 fn has_risen(before: u64, now: u64) -> bool
     ensures { IsTrue result ↔ Rose before now }
@@ -62,38 +31,40 @@ fn has_risen(before: u64, now: u64) -> bool
     before.saturating_add(1) <= now
 }
 
-/// Runs the events in order, from the world of the set-up on. If the keeper's count of faults rose, the run is not whole,
+/// Runs the events in order, from the world of the set-up on; the memory of each is given back once it ran. If the keeper's count of faults rose, the run is not whole,
 /// whatever its lines say.
 #[tactic(auto, using(crate::proofs::Whole::whole_cut))]
-fn run_steadily<R: Threads + Sync, S: MakesSeals, K: Sink, D: Keeper>(
+fn run_events<R: Threads + Sync, S: MakesSeals, K: Sink, D: Keeper>(
     rt: &R,
     alloc: Global,
     world: &mut World,
-    schedule: &Schedule,
+    schedule: Schedule,
     sealer: &S,
     sink: &mut K,
     keeper: &mut D,
 ) -> Result<(), Stop>
-    requires opened { world.old ≡ new_scene (setting_in (trust_by (S.made sealer.now) (S.accepts sealer.now)) schedule.now) schedule.now.setup }
+    requires opened { world.old ≡ new_scene (setting_in (trust_by (S.made sealer.now) (S.accepts sealer.now)) schedule) schedule.setup }
     requires room { length world.old.posts ≤ D.width keeper.old }
     requires wide { AreAtLeast (D.lists keeper.old) (length world.old.posts) }
     requires empty { AreEmpty (D.lists keeper.old) }
     requires laws { SceneLaws (trust_by (S.made sealer.now) (S.accepts sealer.now)) }
-    requires along { StartsAlong (setting_in (trust_by (S.made sealer.now) (S.accepts sealer.now)) schedule.now) schedule.now.events }
-    ensures ok { OnOk result (RunsWhole (trust_by (S.made sealer.now) (S.accepts sealer.now)) schedule.now (K.held sink.old) (K.held sink.new) (D.lists keeper.old) (D.lists keeper.new)) }
+    requires along { StartsAlong (setting_in (trust_by (S.made sealer.now) (S.accepts sealer.now)) schedule) schedule.events }
+    ensures ok { OnOk result (RunsWhole (trust_by (S.made sealer.now) (S.accepts sealer.now)) schedule (K.held sink.old) (K.held sink.new) (D.lists keeper.old) (D.lists keeper.new)) }
     ensures steady { OnOk result (Rose (D.failed keeper.old) (D.failed keeper.new) → ⊥) }
-    ensures shows { OnOk result (ShowsRun (trust_by (S.made sealer.now) (S.accepts sealer.now)) schedule.now (D.lists keeper.old) world.new) }
-    ensures cut { OnErr result (RunsCut (trust_by (S.made sealer.now) (S.accepts sealer.now)) schedule.now (K.held sink.old) (K.held sink.new) (D.lists keeper.old) (D.lists keeper.new)) }
-    ensures bad { IsErrOf result stop.BadRecord → MeetsBadRecord (trust_by (S.made sealer.now) (S.accepts sealer.now)) schedule.now Appends (K.held sink.old) (K.held sink.new) (D.lists keeper.old) }
+    ensures shows { OnOk result (ShowsRun (trust_by (S.made sealer.now) (S.accepts sealer.now)) schedule (D.lists keeper.old) world.new) }
+    ensures cut { OnErr result (RunsCut (trust_by (S.made sealer.now) (S.accepts sealer.now)) schedule (K.held sink.old) (K.held sink.new) (D.lists keeper.old) (D.lists keeper.new)) }
+    ensures bad { IsErrOf result stop.BadRecord → MeetsBadRecord (trust_by (S.made sealer.now) (S.accepts sealer.now)) schedule Appends (K.held sink.old) (K.held sink.new) (D.lists keeper.old) }
     ensures later { K.faults sink.old ≤ K.faults sink.new }
     ensures fault { IsErrOf result stop.WriteFault → Rose (K.faults sink.old) (K.faults sink.new) }
     ensures kept_later { D.failed keeper.old ≤ D.failed keeper.new }
     ensures keep_fault { IsErrOf result stop.KeepFault → Rose (D.failed keeper.old) (D.failed keeper.new) }
 {
     let before = keeper.faults();
-    match run_events(rt, alloc, world, schedule, sealer, sink, keeper) {
-        Ok(()) => {}
-        Err(stop) => return Err(stop),
+    for event in schedule.events.into_vec() {
+        let ran = run_event(rt, alloc, world, &event, sealer, sink, keeper);
+        // Let go by name: an event that is dropped in place has the drop of all its forms proved here.
+        drop(event);
+        ran?;
     }
     if has_risen(before, keeper.faults()) {
         return Err(Stop::KeepFault);
@@ -180,7 +151,7 @@ fn open_to_run<S: MakesSeals>(
 pub(crate) fn run_schedule<R: Threads + Sync, S: MakesSeals, K: Sink, D: Keeper>(
     rt: &R,
     alloc: Global,
-    schedule: &Schedule,
+    schedule: Schedule,
     sealer: &S,
     sink: &mut K,
     keeper: &mut D,
@@ -188,14 +159,14 @@ pub(crate) fn run_schedule<R: Threads + Sync, S: MakesSeals, K: Sink, D: Keeper>
 ) -> Result<World, Stop>
     requires room { 64 ≤ D.width keeper.old }
     requires empty { AreEmpty (D.lists keeper.old) }
-    requires committee { committee_of (stakes_of schedule.now.setup) ≡ Ok (stakes_of schedule.now.setup) }
+    requires committee { committee_of (stakes_of schedule.setup) ≡ Ok (stakes_of schedule.setup) }
     requires laws { SceneLaws (trust_by (S.made sealer.now) (S.accepts sealer.now)) }
-    requires along { StartsAlong (setting_in (trust_by (S.made sealer.now) (S.accepts sealer.now)) schedule.now) schedule.now.events }
-    ensures ok { IfOk result (λ _. RunsWhole (trust_by (S.made sealer.now) (S.accepts sealer.now)) schedule.now (K.held sink.old) (K.held sink.new) (D.lists keeper.old) (D.lists keeper.new)) }
+    requires along { StartsAlong (setting_in (trust_by (S.made sealer.now) (S.accepts sealer.now)) schedule) schedule.events }
+    ensures ok { IfOk result (λ _. RunsWhole (trust_by (S.made sealer.now) (S.accepts sealer.now)) schedule (K.held sink.old) (K.held sink.new) (D.lists keeper.old) (D.lists keeper.new)) }
     ensures steady { IfOk result (λ _. Rose (D.failed keeper.old) (D.failed keeper.new) → ⊥) }
-    ensures shows { IfOk result (λ w. ShowsRun (trust_by (S.made sealer.now) (S.accepts sealer.now)) schedule.now (D.lists keeper.old) w) }
-    ensures cut { OnErr result (RunsCut (trust_by (S.made sealer.now) (S.accepts sealer.now)) schedule.now (K.held sink.old) (K.held sink.new) (D.lists keeper.old) (D.lists keeper.new)) }
-    ensures bad { IsErrOf result stop.BadRecord → MeetsBadRecord (trust_by (S.made sealer.now) (S.accepts sealer.now)) schedule.now Appends (K.held sink.old) (K.held sink.new) (D.lists keeper.old) }
+    ensures shows { IfOk result (λ w. ShowsRun (trust_by (S.made sealer.now) (S.accepts sealer.now)) schedule (D.lists keeper.old) w) }
+    ensures cut { OnErr result (RunsCut (trust_by (S.made sealer.now) (S.accepts sealer.now)) schedule (K.held sink.old) (K.held sink.new) (D.lists keeper.old) (D.lists keeper.new)) }
+    ensures bad { IsErrOf result stop.BadRecord → MeetsBadRecord (trust_by (S.made sealer.now) (S.accepts sealer.now)) schedule Appends (K.held sink.old) (K.held sink.new) (D.lists keeper.old) }
     ensures later { K.faults sink.old ≤ K.faults sink.new }
     ensures fault { IsErrOf result stop.WriteFault → Rose (K.faults sink.old) (K.faults sink.new) }
     ensures kept_later { D.failed keeper.old ≤ D.failed keeper.new }
@@ -203,8 +174,8 @@ pub(crate) fn run_schedule<R: Threads + Sync, S: MakesSeals, K: Sink, D: Keeper>
 {
     // observable lists are as many as the keeper has
     let _ = keeper.members();
-    match open_to_run(alloc, schedule, sealer, waits) {
-        Ok(mut world) => match run_steadily(rt, alloc, &mut world, schedule, sealer, sink, keeper) {
+    match open_to_run(alloc, &schedule, sealer, waits) {
+        Ok(mut world) => match run_events(rt, alloc, &mut world, schedule, sealer, sink, keeper) {
             Ok(()) => Ok(world),
             Err(stop) => {
                 drop(world);

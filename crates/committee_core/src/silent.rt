@@ -5,10 +5,8 @@ ghost use Rattle.std.specs.Io.KnownBytes.{Appends, WriteAppends};
 ghost use Rattle.outside.specs.Causes.{Rose, WriteCause};
 ghost use Rattle.schedule_text.specs.declared.words.Schedule.{Schedule};
 ghost use Rattle.schedule_text.specs.Schedule.{schedule_of};
-ghost use Rattle.world_core.specs.Trusts.{trust_by};
 ghost use Rattle.committee_core.specs.Headline.{program_trust};
 ghost use Rattle.committee_core.specs.Journals.{AreEmpty};
-ghost use Rattle.committee_core.specs.Laws.{SceneLaws};
 ghost use Rattle.committee_core.specs.Ways.{MeetsBadRecord, RunsSilently, TextCut};
 ghost use Rattle.committee_core.specs.declared.silent.Unrun.TheVariants as unrun;
 
@@ -20,7 +18,6 @@ use schedule_text::{ScheduleRefusal, read_schedule};
 use std::alloc::Global;
 use std::thread::Threads;
 use world_core::World;
-use world_lines::MakesSeals;
 
 /// The sink of a run without a report: takes every piece whole, and keeps nothing.
 #[derive(Drop)]
@@ -53,49 +50,9 @@ pub enum Unrun {
     OutOfMemory,
 }
 
-/// Runs a text and writes no report: answers the world after the schedule that it is.
-#[tactic(auto, using(crate::proofs::Members::read_committee, crate::proofs::Whole::nothing_done, crate::proofs::Whole::schedule_cut, crate::proofs::Whole::ran_silently))]
-pub(crate) fn run_silent<R: Threads + Sync, S: MakesSeals, D: Keeper>(
-    rt: &R,
-    alloc: Global,
-    text: &[u8],
-    sealer: &S,
-    keeper: &mut D,
-) -> Result<World, Unrun>
-    requires room { 64 ≤ D.width keeper.old }
-    requires empty { AreEmpty (D.lists keeper.old) }
-    requires laws { SceneLaws (trust_by (S.made sealer.now) (S.accepts sealer.now)) }
-    ensures ran { IfOk result (RunsSilently (trust_by (S.made sealer.now) (S.accepts sealer.now)) text.now (D.lists keeper.old) (D.lists keeper.new)) }
-    ensures steady { IfOk result (λ _. Rose (D.failed keeper.old) (D.failed keeper.new) → ⊥) }
-    ensures refused { (line cause : ℕ) → IsErrOf result (unrun.Refused line cause) → schedule_of text.now ≡ Err (record { line = line; cause = cause }) }
-    ensures bad { IsErrOf result unrun.BadRecord → (s : Schedule) × (schedule_of text.now ≡ Ok s) × MeetsBadRecord (trust_by (S.made sealer.now) (S.accepts sealer.now)) s Appends None None (D.lists keeper.old) }
-    ensures cut { OnErr result (TextCut (trust_by (S.made sealer.now) (S.accepts sealer.now)) (schedule_of text.now) None None (D.lists keeper.old) (D.lists keeper.new)) }
-    ensures kept_later { D.failed keeper.old ≤ D.failed keeper.new }
-    ensures keep_fault { IsErrOf result unrun.KeepFault → Rose (D.failed keeper.old) (D.failed keeper.new) }
-{
-    match read_schedule(alloc, text) {
-        Ok(schedule) => match run_schedule(
-            rt,
-            alloc,
-            &schedule,
-            sealer,
-            &mut Silence,
-            keeper,
-            false,
-        ) {
-            Ok(world) => Ok(world),
-            Err(Stop::WriteFault) => unreachable!(),
-            Err(Stop::KeepFault) => Err(Unrun::KeepFault),
-            Err(Stop::BadRecord) => Err(Unrun::BadRecord),
-            Err(Stop::OutOfMemory) => Err(Unrun::OutOfMemory),
-        },
-        Err(ScheduleRefusal::Refused { line, cause }) => Err(Unrun::Refused { line, cause }),
-        Err(ScheduleRefusal::OutOfMemory) => Err(Unrun::OutOfMemory),
-    }
-}
-
 /// Runs a text under the seals of the program and writes no report: answers the world after the schedule that it is, only if
 /// the keeper's count of faults did not rise. The keeper has a list for each of 64 members, and no record if it shows its lists.
+#[tactic(auto, using(crate::proofs::Members::read_committee, crate::proofs::Whole::nothing_done, crate::proofs::Whole::schedule_cut, crate::proofs::Whole::ran_silently))]
 pub fn world_behind<R: Threads + Sync, D: Keeper>(
     rt: &R,
     alloc: Global,
@@ -112,7 +69,20 @@ pub fn world_behind<R: Threads + Sync, D: Keeper>(
     ensures kept_later { D.failed keeper.old ≤ D.failed keeper.new }
     ensures keep_fault { IsErrOf result unrun.KeepFault → Rose (D.failed keeper.old) (D.failed keeper.new) }
 {
+    let schedule = match read_schedule(alloc, text) {
+        Ok(schedule) => schedule,
+        Err(ScheduleRefusal::Refused { line, cause }) => {
+            return Err(Unrun::Refused { line, cause });
+        }
+        Err(ScheduleRefusal::OutOfMemory) => return Err(Unrun::OutOfMemory),
+    };
     laws_of_scenes();
     let sealer = program_sealer();
-    run_silent(rt, alloc, text, &sealer, keeper)
+    match run_schedule(rt, alloc, schedule, &sealer, &mut Silence, keeper, false) {
+        Ok(world) => Ok(world),
+        Err(Stop::WriteFault) => unreachable!(),
+        Err(Stop::KeepFault) => Err(Unrun::KeepFault),
+        Err(Stop::BadRecord) => Err(Unrun::BadRecord),
+        Err(Stop::OutOfMemory) => Err(Unrun::OutOfMemory),
+    }
 }

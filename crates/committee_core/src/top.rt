@@ -4,7 +4,7 @@ ghost use Rattle.std.specs.Prelude.{◌≡◌, ◌↔◌, ◌≤◌, None, Some,
 ghost use Rattle.std.specs.String.{string_bytes};
 ghost use Rattle.committee_core.specs.Endings.{BeginsEmpty, Ends};
 ghost use Rattle.committee_core.specs.Outside.{outside};
-ghost use Rattle.command_words.specs.Words.{IsInRange, command_in};
+ghost use Rattle.command_words.specs.Words.{command_in};
 
 use crate::check::check;
 use crate::desk::desk;
@@ -19,30 +19,6 @@ use run_law::generated_text_is_a_schedule;
 use std::alloc::Global;
 use std::sync::Wait;
 use std::thread::Threads;
-
-/// Does what the command says. Answers the status.
-fn obey<R: Threads + Wait + Sync, S: Source, K: Sink, D: Keeper>(
-    rt: &R,
-    alloc: Global,
-    command: Command,
-    source: &mut S,
-    sink: &mut K,
-    keeper: &mut D,
-) -> u8
-    requires room { 64 ≤ D.width keeper.old }
-    requires empty { BeginsEmpty (Some command) (D.lists keeper.old) }
-    requires range { IsInRange command }
-    ensures { Ends (Some command) (outside (S.left source.old) (S.faults source.old) (K.held sink.old) (K.faults sink.old) (D.lists keeper.old) (D.failed keeper.old)) (outside (S.left source.new) (S.faults source.new) (K.held sink.new) (K.faults sink.new) (D.lists keeper.new) (D.failed keeper.new)) result }
-{
-    match command {
-        Command::Run => run(rt, alloc, source, sink, keeper),
-        Command::Make { number } => make(rt, alloc, number, sink, keeper),
-        Command::Check { committee, tx } => check(alloc, &committee, &tx, source, sink),
-        Command::Follow { member } => follow(rt, alloc, member, source, sink, keeper),
-        Command::Desk { callers } => desk(rt, alloc, callers, source, sink),
-        Command::Replay { member } => replay(alloc, member, source, sink, keeper),
-    }
-}
 
 /// Runs the program: does what the words say, over a keeper with a list for each of 64 members. If the words run
 /// events, it has no record if it shows its lists. Answers the status.
@@ -148,5 +124,12 @@ pub fn committee<R: Threads + Wait + Sync, S: Source, K: Sink, D: Keeper>(
     if is_parsed(alloc, words).is_err() {
         return OUT_OF_MEMORY;
     }
-    obey(rt, alloc, command, source, sink, keeper)
+    match command {
+        Command::Run => run(rt, alloc, source, sink, keeper),
+        Command::Make { number } => make(rt, alloc, number, sink, keeper),
+        Command::Check { committee, tx } => check(alloc, &committee, &tx, source, sink),
+        Command::Follow { member } => follow(rt, alloc, member, source, sink, keeper),
+        Command::Desk { callers } => desk(rt, alloc, callers, source, sink),
+        Command::Replay { member } => replay(alloc, member, source, sink, keeper),
+    }
 }

@@ -13,7 +13,7 @@ ghost use Rattle.world_core.specs.Replies.{Leaves, Replies};
 
 use crate::reply::{Reply, SeatFault};
 use crate::requests::Asks;
-use crate::stops::meet;
+use crate::stops::{ask_armed, stop_of};
 use crate::terms::Terms;
 use chain_types::ObjectKey;
 use digest_core::Digest;
@@ -125,8 +125,10 @@ impl Seat {
         }
     }
 
-    /// Asks the member, of this number in its committee. `KeepFault` comes only if the call leaves a record, running out of
-    /// memory only if the member is up and met no fork; after both it is down.
+    /// Asks the member, of this number in its committee: `Down` if it is down, `Stopped` if it stops at an armed stop, else its
+    /// answer. `KeepFault` comes only if the call leaves a record, running out of memory only if the member is up and met no
+    /// fork; after both it is down.
+    #[tactic(auto, using(crate::proofs::Stopping::reached_idle, crate::proofs::Stopping::stop_is, crate::proofs::Stopping::stop_free))]
     pub(crate) fn call<R: Threads + Sync, D: Keeper, S: Sealer, Q: Asks>(
         &mut self,
         rt: &R,
@@ -152,9 +154,16 @@ impl Seat {
         let Some(validator) = &mut self.validator else {
             return Ok(Reply::Down);
         };
-        match meet(
-            rt, alloc, validator, keeper, sealer, member, self.armed, request,
-        ) {
+        let Some(kept) = stop_of(validator, self.armed) else {
+            return match request.ask(rt, validator, keeper, sealer) {
+                Ok(answer) => Ok(Reply::Answered(answer)),
+                Err(fault) => {
+                    self.fall();
+                    Err(fault)
+                }
+            };
+        };
+        match ask_armed(rt, alloc, validator, keeper, sealer, member, kept, request) {
             Ok(Some(answer)) => Ok(Reply::Answered(answer)),
             Ok(None) => {
                 self.stop();

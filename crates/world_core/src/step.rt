@@ -1,18 +1,10 @@
 //! One line of the schedule.
 
-ghost use Rattle.std.specs.Prelude.{◌≡◌, ◌≤◌, ℕ, IfOk, IsErrOf, OnErr, OnOk, false, length, true};
-ghost use Rattle.outside.specs.Causes.{Rose};
-ghost use Rattle.world_spec.specs.Scene.{rules_in};
-ghost use Rattle.world_spec.specs.SceneSteps.{lines_in, steps_to, work_of};
-ghost use Rattle.world_spec.specs.SceneWorlds.{AreKeepable, is_restart};
+ghost use Rattle.std.specs.Prelude.{◌≡◌, ◌≤◌, IsErrOf, length};
+ghost use Rattle.world_spec.specs.SceneWorlds.{AreKeepable};
 ghost use Rattle.world_core.specs.declared.world.WorldFault.TheVariants as fault;
-ghost use Rattle.world_core.specs.Cuts.{SeenCut, LineCut, books_in, orders_end};
-ghost use Rattle.world_core.specs.Kept.{LeavesAs, is_quiet};
-ghost use Rattle.world_core.specs.Restarts.{MayRestart};
 ghost use Rattle.world_core.specs.Served.{KeeperAfter, StepAfter, call_outcome, quiet_outcome};
-ghost use Rattle.world_core.specs.Stays.{Stays};
 ghost use Rattle.world_core.specs.Trusts.{trust_by};
-ghost use Rattle.world_lines.specs.Pushed.{GrowsToward};
 
 use crate::SeatFault;
 use crate::world::{World, WorldFault};
@@ -45,8 +37,19 @@ fn quiet_outcome(outcome: Result<Seq<Line>, OutOfMemory>) -> Result<Seq<Line>, W
 }
 
 impl World {
-    /// Runs one line, each by its own method.
-    fn run_line<R: Threads + Sync, D: Keeper, S: MakesSeals>(
+    /// Runs one line, and answers the lines that the report has for it. A member's run goes by the line's workers, in
+    /// threads. Each record that it leaves is appended before the call that leaves it answers. `KeepFault`: the keeper
+    /// failed, and its count of faults rose. `BadRecord`: the member of a `restart` line does not start from its records.
+    ///
+    /// After a fault the world still stands: each look answers of it, and a step may follow. The names, the transactions, the
+    /// certificates and the sequences are as before, except that an `order end` may have ordered its End, and opened no epoch
+    /// then. So is every member except the one that the line calls. That one is as before its
+    /// call; or it fell in the call and is down, so no look finds it, and its record was kept or not; or it is as after the
+    /// call, its record was kept, and only the line of the report is missing. A `see` may have handed in some entries before
+    /// that. A member that fell starts again from its records by a `restart` line, and a `restart` that fails changes
+    /// nothing. A line that touches no record, as `end` and `ack`, leaves each member as it was. What was stated is as before, or
+    /// goes on with the first of what the line would have stated.
+    pub fn step<R: Threads + Sync, D: Keeper, S: MakesSeals>(
         &mut self,
         rt: &R,
         keeper: &mut D,
@@ -56,7 +59,9 @@ impl World {
         requires room { length self.old.posts ≤ D.width keeper.old }
         ensures step { StepAfter (trust_by (S.made sealer.now) (S.accepts sealer.now)) self.old event.now self.new (D.lists keeper.old) (D.lists keeper.new) result }
         ensures keeper { KeeperAfter (D.width keeper.old) (D.width keeper.new) (D.failed keeper.old) (D.failed keeper.new) (IsErrOf result fault.KeepFault) }
+        ensures keepable { AreKeepable self.old.sequences }
     {
+        self.can_keep();
         match event {
             Event::Vote { member, tx } => call_outcome(self.vote(rt, keeper, sealer, *member, tx)),
             Event::Send { member, tx } => call_outcome(self.send(rt, keeper, sealer, *member, tx)),
@@ -120,44 +125,5 @@ impl World {
             Event::Show(member) => quiet_outcome(self.show(*member)),
             Event::Stop { member, kept } => quiet_outcome(self.stop(*member, *kept)),
         }
-    }
-
-    /// Runs one line, and answers the lines that the report has for it. A member's run goes by the line's workers, in
-    /// threads. Each record that it leaves is appended before the call that leaves it answers. `KeepFault`: the keeper
-    /// failed, and its count of faults rose. `BadRecord`: the member of a `restart` line does not start from its records.
-    ///
-    /// After a fault the world still stands: each look answers of it, and a step may follow. The names, the transactions, the
-    /// certificates and the sequences are as before, except that an `order end` may have ordered its End, and opened no epoch
-    /// then. So is every member except the one that the line calls. That one is as before its
-    /// call; or it fell in the call and is down, so no look finds it, and its record was kept or not; or it is as after the
-    /// call, its record was kept, and only the line of the report is missing. A `see` may have handed in some entries before
-    /// that. A member that fell starts again from its records by a `restart` line, and a `restart` that fails changes
-    /// nothing. A line that touches no record, as `end` and `ack`, leaves each member as it was. What was stated is as before, or
-    /// goes on with the first of what the line would have stated.
-    pub fn step<R: Threads + Sync, D: Keeper, S: MakesSeals>(
-        &mut self,
-        rt: &R,
-        keeper: &mut D,
-        sealer: &S,
-        event: &Event,
-    ) -> Result<Seq<Line>, WorldFault>
-        requires room { length self.old.posts ≤ D.width keeper.old }
-        ensures world { OnOk result (is_restart event.now ≡ false → self.new ≡ steps_to (trust_by (S.made sealer.now) (S.accepts sealer.now)) self.old event.now) }
-        ensures lines { IfOk result (λ lines. is_restart event.now ≡ false → lines ≡ lines_in (trust_by (S.made sealer.now) (S.accepts sealer.now)) self.old event.now) }
-        ensures kept { LeavesAs (rules_in (S.accepts sealer.now) self.old) self.old (work_of self.old event.now) (D.lists keeper.old) (D.lists keeper.new) result }
-        ensures restart { MayRestart (S.accepts sealer.now) (D.lists keeper.old) self.old self.new event.now result }
-        ensures stay { OnOk result (Stays self.old self.new) }
-        ensures cut { OnErr result (LineCut (rules_in (S.accepts sealer.now) self.old) self.old (work_of self.old event.now) self.new.posts (D.lists keeper.old) (D.lists keeper.new)) }
-        ensures books { OnErr result (SeenCut books_in (trust_by (S.made sealer.now) (S.accepts sealer.now)) self.old (orders_end event.now) self.new) }
-        ensures quiet { OnErr result (is_quiet event.now ≡ true → self.new.posts ≡ self.old.posts) }
-        ensures said { OnErr result (GrowsToward self.old.said self.new.said (steps_to (trust_by (S.made sealer.now) (S.accepts sealer.now)) self.old event.now).said) }
-        ensures keepable { AreKeepable self.old.sequences }
-        ensures width { D.width keeper.new ≡ D.width keeper.old }
-        ensures later { D.failed keeper.old ≤ D.failed keeper.new }
-        ensures fault { IsErrOf result fault.KeepFault → Rose (D.failed keeper.old) (D.failed keeper.new) }
-        ensures bad { (m place : ℕ) → IsErrOf result (fault.BadRecord m place) → is_restart event.now ≡ true }
-    {
-        self.can_keep();
-        self.run_line(rt, keeper, sealer, event)
     }
 }

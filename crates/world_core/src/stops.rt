@@ -4,7 +4,6 @@ ghost use Rattle.std.specs.Prelude.{◌≡◌, ◌<◌, ◌≤◌, IfOk, IsErrOf
 ghost use Rattle.outside.specs.Causes.{Rose};
 ghost use Rattle.outside.specs.Lists.{journal_of};
 ghost use Rattle.protocol_spec.specs.Member.Calls.{due};
-ghost use Rattle.protocol_spec.specs.Member.Member.{fork_of};
 ghost use Rattle.world_spec.specs.World.{reached_up};
 ghost use Rattle.world_spec.specs.Seats.{rules_of_seat};
 ghost use Rattle.world_spec.specs.Posts.{record_left, seat_behind};
@@ -97,7 +96,7 @@ fn stop<D: Keeper>(keeper: &mut D, member: u32, kept: bool, bytes: &[u8]) -> Res
 /// Asks a member that is up and has an armed stop, which keeps the record or loses it: its answer; none if
 /// it stops.
 #[tactic(auto, using(crate::proofs::Replying::met_idle, crate::proofs::Replying::met_stop, crate::proofs::Replying::left_idle, crate::proofs::Replying::left_stop, crate::proofs::Replying::left_same, crate::proofs::Stopping::stop_owed))]
-fn ask_armed<R: Threads + Sync, D: Keeper, S: Sealer, Q: Asks>(
+pub(crate) fn ask_armed<R: Threads + Sync, D: Keeper, S: Sealer, Q: Asks>(
     rt: &R,
     alloc: Global,
     validator: &mut Validator,
@@ -135,45 +134,11 @@ fn ask_armed<R: Threads + Sync, D: Keeper, S: Sealer, Q: Asks>(
 /// The armed stop that may cut a call of the member. One that met a fork keeps no record, so none cuts its calls. Takes no
 /// memory.
 #[tactic(auto, using(protocol_spec::proofs::Truth::some_mapped))]
-fn stop_of(validator: &Validator, armed: Option<bool>) -> Option<bool>
+pub(crate) fn stop_of(validator: &Validator, armed: Option<bool>) -> Option<bool>
     ensures { result ≡ stop_at validator.now.state armed }
 {
     if validator.fork().is_some() {
         return None;
     }
     armed
-}
-
-/// Asks a member that is up: its answer; none if it stops at an armed stop.
-#[tactic(auto, using(crate::proofs::Stopping::reached_idle, crate::proofs::Stopping::stop_is, crate::proofs::Stopping::stop_free))]
-pub(crate) fn meet<R: Threads + Sync, D: Keeper, S: Sealer, Q: Asks>(
-    rt: &R,
-    alloc: Global,
-    validator: &mut Validator,
-    keeper: &mut D,
-    sealer: &S,
-    member: u32,
-    armed: Option<bool>,
-    request: &Q,
-) -> Result<Option<Q::Answer>, SeatFault>
-    requires known { member < D.width keeper.old }
-    requires few { member < 64 }
-    requires number { validator.old.member ≡ member }
-    requires up { validator.old.up ≡ true }
-    ensures answer { IfOk result (Met (Q.says request.now (rules_of_seat validator.old (S.accepts sealer.now)) (S.accepts sealer.now) validator.old.member) (reached_up validator.old.state armed (due (rules_of_seat validator.old (S.accepts sealer.now)) validator.old.state (Q.call request.now)))) }
-    ensures state { OnOk result (validator.new ≡ seat_behind (rules_of_seat validator.old (S.accepts sealer.now)) (Q.call request.now) validator.old) }
-    ensures kept { Leaves (D.lists keeper.old) (D.lists keeper.new) member (record_left (reached_up validator.old.state armed (due (rules_of_seat validator.old (S.accepts sealer.now)) validator.old.state (Q.call request.now)))) result }
-    ensures width { D.width keeper.new ≡ D.width keeper.old }
-    ensures later { D.failed keeper.old ≤ D.failed keeper.new }
-    ensures fault { IsErrOf result faults.KeepFault → Rose (D.failed keeper.old) (D.failed keeper.new) }
-    ensures owed { IsErrOf result faults.KeepFault → is_some (record_left (reached_up validator.old.state armed (due (rules_of_seat validator.old (S.accepts sealer.now)) validator.old.state (Q.call request.now)))) ≡ true }
-    ensures able { IsErrOf result faults.OutOfMemory → fork_of validator.old.state ≡ None }
-{
-    let Some(kept) = stop_of(validator, armed) else {
-        return match request.ask(rt, validator, keeper, sealer) {
-            Ok(answer) => Ok(Some(answer)),
-            Err(fault) => Err(fault),
-        };
-    };
-    ask_armed(rt, alloc, validator, keeper, sealer, member, kept, request)
 }

@@ -1,4 +1,4 @@
-use Rattle.std.proofs.Common.{length, ap}
+use Rattle.std.proofs.Common.{ap}
 use Rattle.disk_log.proofs.Running.{counts-many}
 use Rattle.committee_core.proofs.Calling.{appended_calling}
 use Rattle.committee_core.proofs.CallLists.{appended_lists}

@@ -1,11 +1,5 @@
-use Rattle.std.proofs.Common.{sym}
+use Rattle.committee_core.proofs.Members.{read_committee}
 use Rattle.committee_core.proofs.silent.world_behind.Goals as goal
 
-pub returns-clause-ran : goal.returns-clause-ran
-returns-clause-ran g c = rw (sym c.program_sealer-sealer.ensures) c.run_silent.ensures.ran
-
-pub returns-clause-bad : goal.returns-clause-bad
-returns-clause-bad g c = rw (sym c.program_sealer-sealer.ensures) c.run_silent.ensures.bad
-
-pub returns-clause-cut : goal.returns-clause-cut
-returns-clause-cut g c = rw (sym c.program_sealer-sealer.ensures) c.run_silent.ensures.cut
+pub run_schedule-requires-clause-committee : goal.run_schedule-requires-clause-committee
+run_schedule-requires-clause-committee g c κs within = read_committee c.args.text.now c.in-Ok.schedule c.in-Ok.ensures.ok

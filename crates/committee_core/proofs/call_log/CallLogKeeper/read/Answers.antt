@@ -1,4 +1,3 @@
-use Rattle.std.proofs.Common.{length}
 use Rattle.committee_core.proofs.Calling.{calling_still}
 use Rattle.committee_core.proofs.call_log.CallLogKeeper.read.Goals as goal
 

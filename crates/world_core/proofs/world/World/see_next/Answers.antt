@@ -1,4 +1,4 @@
-use Rattle.std.proofs.Common.{◌≡◌, ◌∙◌, List, Some, ap, sym, subst, refl, map, ◌++◌, inl, Bool, ℕ, Result, Ok, Err}
+use Rattle.std.proofs.Common.{◌∙◌, List, Some, ap, sym, refl, map, ◌++◌, inl, Bool, ℕ, Result, Ok, Err}
 use Rattle.protocol_spec.specs.Member.Calls.{sees}
 use Rattle.world_spec.specs.Posts.{reached_in, stated_in}
 use Rattle.world_spec.specs.Scene.{Scene, rules_in}
@@ -12,7 +12,7 @@ use Rattle.world_core.proofs.Cuts.{books_seen, call_ended, call_fell, next_cut}
 use Rattle.world_core.proofs.Nexts.{next_goes, next_kept, next_lines, next_in, next_stays, next_world}
 use Rattle.world_core.proofs.SeeTexts.{see_states}
 use Rattle.world_core.proofs.Serving.{keeper_err, memory_none, ok_none}
-use Rattle.world_core.proofs.Stated.{next_grown, some_said, none_grew}
+use Rattle.world_core.proofs.Stated.{next_grown, some_said}
 use Rattle.world_lines.proofs.Growing.{none_added}
 use Rattle.world_core.proofs.world.World.see_next.Goals as goal
 

@@ -1,19 +1,15 @@
-use Rattle.std.proofs.Common.{◌≡◌, ◌∙◌, ap, refl, sym, subst, append-nil, List, [], ◌∷◌, ◌++◌, map, ℕ, Some, None, Result, Ok, Err, option_map}
-use Rattle.report_text.specs.declared.lines.Line.{Line}
+use Rattle.std.proofs.Common.{◌≡◌, ◌∙◌, ap, refl, sym, subst, [], ◌∷◌, Some, None, option_map}
 use Rattle.report_text.specs.declared.lines.Line.TheVariants as line
 use Rattle.report_text.specs.declared.lines.SendText.TheVariants as send_text
 use Rattle.schedule_text.specs.declared.words.Event.TheVariants as events
 use Rattle.world_spec.specs.Scene.{Scene, bare_world, rules_in}
 use Rattle.world_spec.specs.SceneSteps.{lines_in, steps_to, work_of}
 use Rattle.world_spec.specs.Posts.{reached_in}
-use Rattle.world_spec.specs.World.{Said, said_by}
 use Rattle.world_core.specs.Trusts.{trust_by}
-use Rattle.world_core.specs.declared.reply.SeatFault.{SeatFault}
 use Rattle.world_core.specs.declared.reply.SeatFault.TheVariants as seat_fault
-use Rattle.world_core.proofs.Serving.{keeper_err, keeper_none, keeper_same, line_done, line_failed, line_idle, line_told, line_unmade, line_untold, memory_none, ok_none}
+use Rattle.world_core.proofs.Serving.{keeper_err, keeper_none, keeper_same, line_failed, line_idle, line_told, line_unmade, line_untold, memory_none}
 use Rattle.protocol_spec.specs.Member.Calls.{holds}
 use Rattle.world_spec.specs.Names.{cert_named}
-use Rattle.world_spec.specs.SceneSteps.{hold_text_in}
 use Rattle.world_core.specs.Texts.{spelled_cert}
 use Rattle.world_core.proofs.Lines.{send_none_lines, send_some_lines}
 use Rattle.world_core.proofs.Serving.{held_idle, held_work}

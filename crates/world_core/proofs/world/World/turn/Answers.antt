@@ -1,19 +1,14 @@
-use Rattle.std.proofs.Common.{◌≡◌, ◌∙◌, ap, refl, sym, subst, append-nil, List, [], ◌∷◌, ◌++◌, map, ℕ, Some, None, Result, Ok, Err, option_map}
+use Rattle.std.proofs.Common.{refl, List, Result, Ok}
 use Rattle.report_text.specs.declared.lines.Line.{Line}
-use Rattle.report_text.specs.declared.lines.Line.TheVariants as line
 use Rattle.schedule_text.specs.declared.words.Event.TheVariants as events
-use Rattle.world_spec.specs.Scene.{Scene, bare_world, rules_in}
+use Rattle.world_spec.specs.Scene.{Scene, rules_in}
 use Rattle.world_spec.specs.SceneSteps.{lines_in, steps_to, work_of}
 use Rattle.world_spec.specs.Posts.{reached_in}
-use Rattle.world_spec.specs.World.{Said, said_by}
 use Rattle.world_core.specs.Trusts.{trust_by}
 use Rattle.world_core.specs.declared.reply.SeatFault.{SeatFault}
 use Rattle.world_core.specs.declared.reply.SeatFault.TheVariants as seat_fault
-use Rattle.world_core.proofs.Serving.{keeper_err, keeper_none, keeper_same, line_done, line_failed, line_idle, line_told, line_unmade, line_untold, memory_none, ok_none}
-use Rattle.std.specs.Prelude.{slice_get}
+use Rattle.world_core.proofs.Serving.{keeper_err, keeper_none, line_failed, line_told, line_untold, memory_none, ok_none}
 use Rattle.protocol_spec.specs.Member.Calls.{turns}
-use Rattle.world_spec.specs.SceneSteps.{standing_at}
-use Rattle.world_core.specs.Crews.{epoch_of}
 use Rattle.world_core.specs.Epochs.{turn_replied}
 use Rattle.world_core.proofs.Turning.{turn_reply, turn_states}
 use Rattle.world_core.proofs.world.World.turn.Goals as goal
