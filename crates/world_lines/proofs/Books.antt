@@ -267,7 +267,7 @@ names_equal a b = bytes_eq a.items b.items
 
 pub last_formed : (name : List ℕ) (rows : List FormedRow) → option_map row_cert (last_where (is_named name) rows) ≡ option_map cert_in (last_where (λ (f : Formed). bytes_eq f.name name) (formed_list rows))
 last_formed name [] = refl
-last_formed name (r ∷ rows) = by (last_where (is_named name) rows) (last_where (λ (f : Formed). bytes_eq f.name name) (formed_list rows)) (bytes_eq r.name name) (last_formed name rows)
+last_formed name (r ∷ rows) = by (last_where (is_named name) rows) (last_where (λ (f : Formed). bytes_eq f.name name) (formed_list rows)) (bytes_eq r.name.value.items name) (last_formed name rows)
   where
     by : (o : Option FormedRow) (p : Option Formed) (b : Bool) → option_map row_cert o ≡ option_map cert_in p
         → option_map row_cert (first_some (o ∷ where_true b r ∷ [])) ≡ option_map cert_in (first_some (p ∷ where_true b (formed_as r) ∷ []))
@@ -294,7 +294,7 @@ names_meet : (k : List ℕ) (a b : Vec ℕ Global) → name_same k a ≡ true �
 names_meet k a b p q = subst (λ x. bytes_eq x b.items ≡ true) ((bytes_eq-Decides k a.items).0 p) q
 
 pub formed_more : (rows : List FormedRow) (places : List (Vec ℕ Global × ℕ)) (r : FormedRow) (key : Vec ℕ Global) {ys : List FormedRow} {fs : List (Vec ℕ Global × ℕ)} {n : ℕ}
-    → LastPlaced name_same is_named rows places → fs ≡ insert_entry names_equal places key n → key.items ≡ r.name → n ≡ length rows → ys ≡ rows ++ r ∷ []
+    → LastPlaced name_same is_named rows places → fs ≡ insert_entry names_equal places key n → key.items ≡ r.name.value.items → n ≡ length rows → ys ≡ rows ++ r ∷ []
     → LastPlaced name_same is_named ys fs
 formed_more rows places r key placed puts of last adds =
-    placed_more name_same names_equal names_respect names_meet is_named rows places r placed puts last adds (λ k. ap (bytes_eq k) of ∙ bytes_turned k r.name)
+    placed_more name_same names_equal names_respect names_meet is_named rows places r placed puts last adds (λ k. ap (bytes_eq k) of ∙ bytes_turned k r.name.value.items)

@@ -1,7 +1,8 @@
 -- What lines form and order can be encoded.
-use Rattle.std.proofs.Common.{◌≡◌, ◌∙◌, ap, sym, refl, subst, suc, ℕ, ◌+◌, ◌-◌, ◌≤◌, List, [], ◌∷◌, length, length-append, take, take_at, Option, arith}
+use Rattle.std.proofs.Common.{◌≡◌, ◌∙◌, ap, sym, refl, subst, suc, ℕ, ◌+◌, ◌-◌, ◌<◌, ◌≤◌, List, [], ◌∷◌, drop, length, length-append, take, take_all, take_at, Option, arith}
 use Rattle.digest_core.specs.declared.Digest.{Digest}
 use Rattle.wire_bcs.specs.Digests.{digest}
+use Rattle.wire_bcs.specs.Uleb.{uleb}
 use Rattle.chain_types.specs.declared.transactions.SignedTx.{SignedTx}
 use Rattle.chain_types.specs.Transactions as transactions
 use Rattle.chain_messages.specs.declared.messages.Certificate.{Certificate}
@@ -26,6 +27,19 @@ without_seal t bytes front mid of at is =
   where
     without : (a b : ℕ) → (a + b) - b ≡ a
     without a b = omega arith
+
+-- the encoding of the entry that orders a certificate, and what follows the number in it
+entry_is : (c : Certificate) → messages.entry.spell (entry.Cert c) ≡ 0 ∷ messages.certificate.spell c
+unfolding messages.entry uleb
+entry_is c = refl
+
+pub entry_some : (c : Certificate) (bytes : List ℕ) → bytes ≡ messages.entry.spell (entry.Cert c) → length bytes < 1 → ⊥
+entry_some c bytes of few = let many = ap length (of ∙ entry_is c) in omega (arith, few, many)
+
+pub without_number : (c : Certificate) (bytes : List ℕ) → bytes ≡ messages.entry.spell (entry.Cert c) → take (length bytes - 1) (drop 1 bytes) ≡ messages.certificate.spell c
+without_number c bytes of =
+    ap (λ xs. take (length xs - 1) (drop 1 xs)) (of ∙ entry_is c)
+    ∙ take_all (length (0 ∷ messages.certificate.spell c) - 1) (messages.certificate.spell c) (omega arith)
 
 -- votes with origins that are not too many
 pub vote_short : (epoch : ℕ) (tx : Digest) (origins : List (Option Digest)) → length origins ≤ 2147483647 → messages.statement.short (statement.Vote epoch tx origins)

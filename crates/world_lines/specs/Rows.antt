@@ -53,14 +53,14 @@ row_seal r = Some r.seal
 -- ---- certificates
 
 abbrev pub formed_as : FormedRow → Formed
-formed_as r = record { name = r.name; cert = r.cert }
+formed_as r = record { name = r.name.value.items; cert = r.cert }
 
 abbrev pub formed_list : List FormedRow → List Formed
 formed_list rows = map formed_as rows
 
 -- the row is of this name
 abbrev pub is_named : List ℕ → FormedRow → Bool
-is_named name r = bytes_eq r.name name
+is_named name r = bytes_eq r.name.value.items name
 
 abbrev pub row_cert : FormedRow → Certificate
 row_cert r = r.cert

@@ -3,8 +3,10 @@
 ghost use Rattle.std.specs.Prelude.{◌≡◌, IfOk};
 ghost use Rattle.wire_bcs.specs.Wrote.{Writes};
 ghost use Rattle.chain_messages.specs.Messages as codecs;
+ghost use Rattle.chain_messages.specs.declared.messages.Entry.TheVariants as entries;
 ghost use Rattle.world_lines.specs.Forming.{with_seals};
 
+use crate::shared_bytes::SharedBytes;
 use crate::shared_tx::SharedTx;
 use chain_messages::{Certificate, MemberSeal};
 use digest_core::Digest;
@@ -12,47 +14,54 @@ use std::alloc::Global;
 use std::marker::Model;
 use wire_bcs::{Duplicate, OutOfMemory, Seq, Wire, Writer};
 
-/// A certificate and its encoding. It owns its transaction together with the line that made it. Contracts see the certificate.
+/// A certificate, and the encoding of the entry that orders it, which ends with that of the certificate. It owns its
+/// transaction together with the line that made it. Contracts see the certificate.
 #[derive(Debug, Drop)]
 pub struct FormedCertificate {
     signed: SharedTx,
     origins: Seq<Option<Digest>>,
     seals: Seq<MemberSeal>,
-    bytes: Seq<u8>,
+    entry: SharedBytes,
 }
 
 impl Model for FormedCertificate {
     ghost use Rattle.std.specs.Prelude.{◌≡◌};
     ghost use Rattle.chain_messages.specs.Messages as codecs;
     ghost use Rattle.chain_messages.specs.declared.messages.Certificate.{Certificate as C};
+    ghost use Rattle.chain_messages.specs.declared.messages.Entry.TheVariants as entries;
     ghost use Rattle.world_lines.specs.Forming.{with_seals};
 
     ghost Value = { C };
 
     ghost view = { λ c. with_seals c.signed.tx c.origins c.seals };
 
-    ghost invariant = { λ c. c.bytes ≡ codecs.certificate.spell (with_seals c.signed.tx c.origins c.seals) };
+    ghost invariant = { λ c. c.entry ≡ codecs.entry.spell (entries.Cert (with_seals c.signed.tx c.origins c.seals)) };
 }
 
-/// Writes the certificate of a transaction. The encoding of the transaction is not made again.
-#[tactic(auto, using(wire_bcs::specs::Wrote::parts), unfolding(chain_messages::specs::Messages::certificate))]
-fn write_certificate(
+/// Writes the entry that orders the certificate of a transaction: its number, and the certificate. The encoding of the
+/// transaction is not made again.
+#[tactic(auto, using(wire_bcs::specs::Wrote::parts), unfolding(chain_messages::specs::Messages::certificate, chain_messages::specs::Messages::entry))]
+fn write_entry(
     writer: &mut Writer,
     signed: &SharedTx,
     origins: &Seq<Option<Digest>>,
     seals: &Seq<MemberSeal>,
 ) -> Result<(), OutOfMemory>
     requires { codecs.certificate.short (with_seals signed.now.tx origins.now seals.now) }
-    ensures { Writes writer.old writer.new (codecs.certificate.spell (with_seals signed.now.tx origins.now seals.now)) result }
+    ensures { Writes writer.old writer.new (codecs.entry.spell (entries.Cert (with_seals signed.now.tx origins.now seals.now))) result }
 {
+    writer.put_tag(CERT)?;
     writer.put_fixed(signed.tx_bytes())?;
     origins.write_into(writer)?;
     seals.write_into(writer)?;
     Ok(())
 }
 
-/// In bytes: the most that the lengths of the two lists take.
-const LENGTHS: usize = 10;
+/// The number of the entries that order a certificate.
+const CERT: u32 = 0;
+
+/// In bytes: the most that the entry's number and the lengths of the two lists take.
+const LENGTHS: usize = 11;
 
 /// In bytes: the most that an origin takes.
 const ORIGIN: usize = 33;
@@ -60,7 +69,7 @@ const ORIGIN: usize = 33;
 /// In bytes: what a member's seal takes.
 const SEAL: usize = 36;
 
-/// The encoding of the certificate of a transaction.
+/// The encoding of the entry that orders the certificate of a transaction.
 fn encoded(
     alloc: Global,
     signed: &SharedTx,
@@ -68,7 +77,7 @@ fn encoded(
     seals: &Seq<MemberSeal>,
 ) -> Result<Seq<u8>, OutOfMemory>
     requires { codecs.certificate.short (with_seals signed.now.tx origins.now seals.now) }
-    ensures { IfOk result (λ bytes. bytes ≡ codecs.certificate.spell (with_seals signed.now.tx origins.now seals.now)) }
+    ensures { IfOk result (λ bytes. bytes ≡ codecs.entry.spell (entries.Cert (with_seals signed.now.tx origins.now seals.now))) }
 {
     let lists = (origins.len() as usize)
         .saturating_mul(ORIGIN)
@@ -79,7 +88,7 @@ fn encoded(
         .saturating_add(lists)
         .saturating_add(LENGTHS);
     let mut writer = Writer::with_room(alloc, room)?;
-    write_certificate(&mut writer, signed, origins, seals)?;
+    write_entry(&mut writer, signed, origins, seals)?;
     Ok(writer.finish())
 }
 
@@ -99,7 +108,7 @@ impl FormedCertificate {
             signed,
             origins,
             seals,
-            bytes,
+            entry: SharedBytes::new(alloc, bytes)?,
         })
     }
 
@@ -110,11 +119,21 @@ impl FormedCertificate {
         self.signed.value().tx.epoch
     }
 
+    /// The encoding of the entry that orders it. Takes no memory.
+    pub(crate) fn entry(&self) -> &SharedBytes
+        ensures { result.now ≡ codecs.entry.spell (entries.Cert self.now) }
+    {
+        &self.entry
+    }
+
     /// Its encoding. Takes no memory.
     pub fn bytes(&self) -> &[u8]
         ensures { result.now ≡ codecs.certificate.spell self.now }
     {
-        self.bytes.as_slice()
+        match self.entry.get().as_slice() {
+            [_number, certificate @ ..] => certificate,
+            [] => &[],
+        }
     }
 
     /// The certificate, copied.

@@ -12,12 +12,13 @@ use crate::said::push_in_room;
 use indexmap::IndexMap;
 use std::alloc::Global;
 use std::marker::Model;
-use wire_bcs::{OutOfMemory, Seq};
+use std::snapshot::Snapshot;
+use wire_bcs::OutOfMemory;
 
-/// A certificate under the name for which it was formed.
-#[derive(Debug, Drop)]
+/// A certificate. The name for which it was formed stands only in contracts: the map has it.
+#[derive(Drop)]
 pub(crate) struct FormedRow {
-    name: Seq<u8>,
+    name: Snapshot<Vec<u8>>,
     cert: FormedCertificate,
 }
 
@@ -86,8 +87,8 @@ impl FormedCertificates {
         ensures ok { OnOk result (self.new ≡ self.old ++ record { name = name.now; cert = cert } ∷ []) }
         ensures err { OnErr result (self.new ≡ self.old) }
     {
-        let kept = Seq::from_slice(self.alloc, name)?;
         let key = Vec::from_slice(self.alloc, name)?;
+        let kept = Snapshot::of(&key);
         self.rows.reserve(1)?;
         let place = self.rows.as_slice().len();
         note_name(&mut self.places, key, place)?;

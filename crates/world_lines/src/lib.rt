@@ -59,6 +59,7 @@ mod rows;
 mod runs;
 mod said;
 mod said_law;
+mod shared_bytes;
 mod shared_tx;
 mod shown;
 mod shows;

@@ -1,7 +1,6 @@
 //! The [`ConsensusLog`]: the sequences of a run, each entry encoded once.
 
 ghost use Rattle.std.specs.Prelude.{◌≡◌, ℕ, IfOk, OnErr, OnOk, Option, length, option_copied, option_map, slice_get};
-ghost use Rattle.wire_bcs.specs.Wrote.{Writes};
 ghost use Rattle.chain_messages.specs.Messages as codecs;
 ghost use Rattle.chain_messages.specs.declared.messages.Entry.TheVariants as entries;
 ghost use Rattle.protocol_spec.specs.Chain.Certificates.{rules_of};
@@ -12,12 +11,13 @@ ghost use Rattle.world_lines.specs.Orders.{AreSpelled, IsSpelled, entries_of, en
 
 use crate::certificate::FormedCertificate;
 use crate::ends::{are_an_end, end_of, keep_end};
+use crate::shared_bytes::SharedBytes;
 use chain_messages::{Entry, MemberSeal, encode_entry};
 use quorum_core::{Committee, Sealer};
 use std::alloc::Global;
 use std::marker::Model;
 use std::snapshot::Snapshot;
-use wire_bcs::{OutOfMemory, Seq, Writer};
+use wire_bcs::{OutOfMemory, Seq};
 
 /// In bytes: no record can keep an entry of this length or more.
 const TOO_LONG: u64 = 1 << 31;
@@ -33,16 +33,16 @@ pub(crate) enum EntryView {
 #[derive(Drop)]
 pub(crate) struct OrderedRow {
     entry: EntryView,
-    bytes: Seq<u8>,
+    bytes: SharedBytes,
 }
 
 /// An entry with its encoding. One of 2^31 bytes, more than any record can keep, is reported as out of memory.
-fn ordered_row(entry: EntryView, bytes: Seq<u8>) -> Result<OrderedRow, OutOfMemory>
+fn ordered_row(entry: EntryView, bytes: SharedBytes) -> Result<OrderedRow, OutOfMemory>
     requires { bytes ≡ codecs.entry.spell (entry_in entry) }
     ensures spelled { IfOk result IsSpelled }
     ensures entry { IfOk result (λ row. row_entry row ≡ entry_in entry) }
 {
-    if bytes.len() >= TOO_LONG {
+    if bytes.get().len() >= TOO_LONG {
         return Err(OutOfMemory);
     }
     Ok(OrderedRow { entry, bytes })
@@ -54,29 +54,16 @@ fn spelled(alloc: Global, entry: &Entry) -> Result<OrderedRow, OutOfMemory>
     ensures spelled { IfOk result IsSpelled }
     ensures entry { IfOk result (λ row. row_entry row ≡ entry.now) }
 {
-    let bytes = encode_entry(alloc, entry)?;
+    let bytes = SharedBytes::new(alloc, encode_entry(alloc, entry)?)?;
     ordered_row(EntryView::Whole(Snapshot::of(entry)), bytes)
 }
 
-/// Writes the entry of a certificate: its number, and the certificate's encoding, which is not made again.
-#[tactic(auto, using(wire_bcs::specs::Wrote::parts), unfolding(chain_messages::specs::Messages::entry))]
-fn write_cert(writer: &mut Writer, cert: &FormedCertificate) -> Result<(), OutOfMemory>
-    ensures { Writes writer.old writer.new (codecs.entry.spell (entries.Cert cert.now)) result }
-{
-    writer.put_tag(0)?;
-    writer.put_fixed(cert.bytes())?;
-    Ok(())
-}
-
-/// The entry that orders a certificate, from the encoding that the certificate has already; the certificate is not
-/// copied.
-fn spelled_cert(alloc: Global, cert: &FormedCertificate) -> Result<OrderedRow, OutOfMemory>
+/// The entry that orders a certificate, which owns the encoding too: it is not made again.
+fn spelled_cert(cert: &FormedCertificate) -> Result<OrderedRow, OutOfMemory>
     ensures spelled { IfOk result IsSpelled }
     ensures entry { IfOk result (λ row. row_entry row ≡ entries.Cert cert.now) }
 {
-    let mut writer = Writer::with_room(alloc, cert.bytes().len().saturating_add(1))?;
-    write_cert(&mut writer, cert)?;
-    ordered_row(EntryView::Cert(Snapshot::of(cert)), writer.finish())
+    ordered_row(EntryView::Cert(Snapshot::of(cert)), cert.entry().share()?)
 }
 
 /// The bytes of the entry of this number.
@@ -84,7 +71,7 @@ fn bytes_at(rows: &[OrderedRow], number: u64) -> Option<&Seq<u8>>
     ensures { option_copied result ≡ option_map (λ r. r.bytes) (slice_get rows.now number) }
 {
     match rows.get(number as usize) {
-        Some(row) => Some(&row.bytes),
+        Some(row) => Some(row.bytes.get()),
         None => None,
     }
 }
@@ -171,11 +158,11 @@ impl ConsensusLog {
         ensures keepable { AreKeepable self.new.sequences }
     {
         let row = spelled(self.alloc, entry)?;
-        let end = end_of(self.alloc, self.epoch(), entry, row.bytes.as_slice())?;
+        let end = end_of(self.alloc, self.epoch(), entry, row.bytes.get().as_slice())?;
         self.push_row(row, end)
     }
 
-    /// Orders a certificate at the end of the open epoch's sequence; it is neither copied nor encoded again. A refusal
+    /// Orders a certificate at the end of the open epoch's sequence; neither it nor its encoding is copied. A refusal
     /// changes nothing.
     #[tactic(auto, using(crate::proofs::Ordering::keepable_all))]
     pub fn push_cert(&mut self, cert: &FormedCertificate) -> Result<(), OutOfMemory>
@@ -183,7 +170,8 @@ impl ConsensusLog {
         ensures err { OnErr result (self.new ≡ self.old) }
         ensures keepable { AreKeepable self.new.sequences }
     {
-        let row = spelled_cert(self.alloc, cert)?;
+        let _ = &self.past;
+        let row = spelled_cert(cert)?;
         self.push_row(row, None)
     }
 
