@@ -10,10 +10,10 @@ ghost use Rattle.protocol_spec.specs.Member.Admission.{is_known};
 ghost use Rattle.protocol_spec.specs.Member.Checkpoints.{held_of};
 ghost use Rattle.protocol_spec.specs.Member.Calls.{effects_of, newly_built, ran_items, record_limit, reverted};
 ghost use Rattle.epoch_turn.specs.Chains.{waiting_one};
-ghost use Rattle.protocol_spec.specs.Member.Member.{Fork as TheFork, ballot, books, built as built_by, consumes, fork_of, fresh, live_objects, vote_for, with_rounds};
+ghost use Rattle.protocol_spec.specs.Member.Member.{Fork as TheFork, books, built as built_by, consumes, fork_of, fresh, live_objects, vote_for, with_rounds};
 ghost use Rattle.protocol_spec.specs.Member.Sequence.{seen_what};
 ghost use Rattle.protocol_spec.specs.Member.Versions.{Version, object_in, version_at, versions};
-ghost use Rattle.protocol_spec.specs.Member.Votes.{Cast, locked, vote_origins, vote_refusal};
+ghost use Rattle.protocol_spec.specs.Member.Votes.{Cast, locked};
 ghost use Rattle.protocol_spec.specs.Member.Rounds.{left, rounds};
 ghost use Rattle.world_spec.specs.Starts.{AreApart};
 ghost use Rattle.world_spec.specs.Terms.{rules_for};
@@ -22,13 +22,12 @@ ghost use Rattle.validator_core.specs.Limits.{Accepting, terms_at};
 ghost use Rattle.validator_core.specs.Opened.{opening_objects};
 ghost use Rattle.epoch_turn.specs.Dues.{unordered};
 ghost use Rattle.validator_core.specs.Steps.{closing, counted, holding, items_of, turning, voted};
-ghost use Rattle.vote_rules.specs.Decide.{Decides};
 ghost use Rattle.vote_rules.specs.Holders.{sides};
 ghost use Rattle.protocol_spec.specs.declared.answers.Held.{Held as H};
 
 use crate::entries::EntryOutcome;
 use crate::epoch_state::EpochState;
-use chain_types::{DecideRefusal, Object, ObjectKey, Transaction};
+use chain_types::{Object, ObjectKey, Transaction};
 use checkpoint_core::{Checkpoint, HashedCheckpoint};
 use dag_pool::Gate;
 use digest_core::Digest;
@@ -52,7 +51,7 @@ const RECORD_LIMIT: u64 = 4_194_303;
 pub(crate) struct State {
     records: u64,
     closed: bool,
-    votes: VoteStore,
+    pub(crate) votes: VoteStore,
     /// How many of the first held certificates are in the sequence; one step further after each entry.
     ordered: usize,
     pub(crate) epoch_state: EpochState,
@@ -267,18 +266,6 @@ impl State {
         ensures value { option_map (λ (o : _). o.now) result ≡ option_map (λ (v : Cast). v.origins) (vote_for self.now.member tx.now) }
     {
         self.votes.origins(tx)
-    }
-
-    /// The vote rule over what is held and voted for.
-    pub(crate) fn decide(
-        &self,
-        tx: &Transaction,
-        digest: &Digest,
-    ) -> Result<Seq<Option<Digest>>, DecideRefusal>
-        ensures { Decides (vote_refusal (ballot self.now.member) tx.now digest.now) (vote_origins (ballot self.now.member) tx.now) result }
-    {
-        self.votes
-            .decide(self.alloc, &self.epoch_state.store, tx, digest)
     }
 
     /// Whether a certificate of the transaction is held. Takes no memory.

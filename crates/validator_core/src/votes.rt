@@ -109,7 +109,8 @@ impl State {
         if !sealed {
             return Err(VoteRefusal::Unsealed);
         }
-        match self.decide(tx, &digest) {
+        let store = &self.epoch_state.store;
+        match self.votes.decide(self.alloc, store, tx, &digest) {
             Ok(origins) => Ok(DecidedVote {
                 digest,
                 origins,
