@@ -1,6 +1,6 @@
 -- What is due to a call can be encoded, so its record is read back.
 use Rattle.std.proofs.Common.{refl, subst, ap}
-use Rattle.std.specs.Prelude.{◌≡◌, ◌+◌, List, [], ◌∷◌, ◌++◌, Option, Some, None, Result}
+use Rattle.std.specs.Prelude.{◌≡◌, List, [], ◌∷◌, ◌++◌, Option, Some, None, Result}
 use Rattle.wire_bcs.specs.Place.{Stop}
 use Rattle.wire_bcs.specs.Whole.{whole-only}
 use Rattle.chain_types.specs.declared.objects.Object.{Object}

@@ -1,12 +1,9 @@
 -- The state that a start leaves: what it names are digests, and the origins of its votes can be encoded.
-use Rattle.std.proofs.Common.{refl, sym, subst, ap, append-nil, append_assoc, arith}
-use Rattle.std.specs.Prelude.{◌≡◌, ℕ, ◌+◌, ◌==◌, ◌&&◌, Bool, true, false, not, is_none, is_ok, List, [], ◌∷◌, ◌++◌, map, flat_map, length, Option, Some, None, Result, Ok, Err}
+use Rattle.std.proofs.Common.{refl, sym, subst, ap, append-nil, append_assoc}
+use Rattle.std.specs.Prelude.{◌≡◌, ℕ, ◌==◌, Bool, true, false, not, is_none, is_ok, List, [], ◌∷◌, ◌++◌, map, Option, Some, None, Result, Ok, Err}
 use Rattle.digest_core.specs.declared.Digest.{Digest}
-use Rattle.chain_types.specs.Digests.{transaction_digest, key_of, is_object}
+use Rattle.chain_types.specs.Digests.{transaction_digest}
 use Rattle.chain_types.specs.declared.objects.Object.{Object}
-use Rattle.chain_types.specs.declared.objects.ObjectKey.{ObjectKey}
-use Rattle.chain_types.specs.declared.transactions.Input.{Input}
-use Rattle.chain_types.specs.declared.transactions.Input.TheVariants as input
 use Rattle.chain_types.specs.declared.transactions.Transaction.{Transaction}
 use Rattle.chain_types.specs.Equal.{digest_eq}
 use Rattle.chain_messages.specs.declared.messages.Certificate.{Certificate}
@@ -20,20 +17,17 @@ use Rattle.protocol_spec.specs.declared.answers.Ran.{Ran}
 use Rattle.protocol_spec.specs.declared.refusals.VoteRefusal.{VoteRefusal}
 use Rattle.protocol_spec.specs.declared.refusals.VoteRefusal.TheVariants as no_vote
 use Rattle.protocol_spec.specs.declared.refusals.RunRefusal.{RunRefusal}
-use Rattle.protocol_spec.proofs.Checked.{few_inputs}
 use Rattle.protocol_spec.proofs.Equality.{origins_same}
 use Rattle.protocol_spec.proofs.ListLemmas.{and-second, each_has, each_join, find_has}
 use Rattle.protocol_spec.proofs.Truth.{map_none}
-use Rattle.protocol_spec.specs.Chain.Words.{Along, Each, first_some, refused_or, unless_refused, where_true}
+use Rattle.protocol_spec.specs.Chain.Words.{Along, first_some, refused_or, unless_refused, where_true}
 use Rattle.protocol_spec.specs.Chain.Tests.{list_eq}
 use Rattle.protocol_spec.specs.Chain.Shape.{shape_fault}
-use Rattle.protocol_spec.specs.Chain.Keys.{objects_of}
 use Rattle.protocol_spec.specs.Chain.Certificates.{Rules}
-use Rattle.protocol_spec.specs.Member.Versions.{Execution, Version, is_key, opened, version_at, versions, written, written_by}
-use Rattle.protocol_spec.specs.Member.Votes.{Ballot, Cast, made_by, maker, origin_of, shared_key, vote_origins}
+use Rattle.protocol_spec.specs.Member.Votes.{Cast, vote_origins}
 use Rattle.protocol_spec.specs.Member.Sequence.{held_as}
 use Rattle.protocol_spec.specs.Member.Member.{Member, after, ballot, cast_of, state, vote_for}
-use Rattle.protocol_spec.specs.Member.Calls.{Call, votes, sees, runs, Voted, due, new_vote, new_vote_cases, ran_items, ran_record, run_answer, run_record, see_cases, see_record, vote_again, vote_on, vote_stopped, voted_as}
+use Rattle.protocol_spec.specs.Member.Calls.{Call, sees, runs, Voted, due, new_vote, new_vote_cases, ran_items, ran_record, run_answer, run_record, see_cases, see_record, vote_again, vote_on, vote_stopped, voted_as}
 use Rattle.protocol_spec.specs.Member.Replay.{is_allowed, is_some_list, is_vote_for, ran_item_eq, states_origins}
 use Rattle.safety_law.proofs.Apart.{none-each, state-push}
 use Rattle.run_law.proofs.Members.{AreOrigins, IsDigest, IsFitMember, IsFitStatement, digest-of, fit-none, fit-step, named-origins}

@@ -1,12 +1,11 @@
 -- What a disk that holds some lists leaves of one of them.
 use Rattle.std.proofs.Common.{inl, inr, refl, sym, subst, ap, ◌∙◌, arith, append-nil}
-use Rattle.std.specs.Prelude.{◌≡◌, ◌<◌, ℕ, zero, suc, List, [], ◌∷◌, ◌++◌, length, replicate, slice_set, Option, Some}
-use Rattle.outside.specs.Lists.{Journals, journal_of, with_record}
+use Rattle.std.specs.Prelude.{◌≡◌, ◌<◌, ℕ, zero, suc, List, [], ◌∷◌, ◌++◌, length, replicate, slice_set, Some}
+use Rattle.outside.specs.Lists.{Journals, journal_of}
 use Rattle.disk_log.specs.Disk.{History}
-use Rattle.disk_log.specs.Records.{Record, counted, journals_of}
+use Rattle.disk_log.specs.Records.{Record, journals_of}
 use Rattle.disk_log.specs.Running.{HasRecords, HoldsLists}
 use Rattle.disk_log.proofs.Listing.{added_to-push, length-journals}
-use Rattle.protocol_spec.proofs.ListLemmas.{front_whole}
 use Rattle.protocol_spec.specs.Chain.Words.{IsFront}
 use Rattle.lives_law.specs.Files.{IsLeft, kept_of}
 use Rattle.run_law.proofs.SceneRecords.{front-set}

@@ -1,18 +1,18 @@
 -- The lives of the processes of a member on one file.
 use Rattle.std.proofs.Common.{inl, inr, refl, sym, subst, ap, ◌∙◌, append_assoc}
-use Rattle.std.specs.Prelude.{◌≡◌, ◌⊎◌, ℕ, List, [], ◌∷◌, ◌++◌, Ok}
+use Rattle.std.specs.Prelude.{◌≡◌, ◌⊎◌, ℕ, List, [], ◌∷◌, ◌++◌}
 use Rattle.std.specs.List.{flat_map}
-use Rattle.disk_log.specs.Disk.{History, IsImage, IsQuiet}
+use Rattle.disk_log.specs.Disk.{History, IsQuiet}
 use Rattle.disk_log.proofs.Moments.{settled-image}
 use Rattle.chain_types.specs.declared.objects.Object.{Object}
 use Rattle.journal_core.specs.declared.records.Record.{Record}
 use Rattle.protocol_spec.proofs.ListLemmas.{front_then, front_whole}
 use Rattle.protocol_spec.specs.Chain.Words.{Each, IsFront}
 use Rattle.protocol_spec.specs.Chain.Certificates.{Rules}
-use Rattle.protocol_spec.specs.Member.Member.{Member, state}
+use Rattle.protocol_spec.specs.Member.Member.{Member}
 use Rattle.protocol_spec.specs.Member.Calls.{Call}
 use Rattle.world_spec.specs.SceneWorlds.{spelled}
-use Rattle.lives_law.specs.Lives.{AreLives, Life, NothingIsTakenBack, last_records, records_after}
+use Rattle.lives_law.specs.Lives.{NothingIsTakenBack, records_after}
 use Rattle.lives_law.specs.Files.{AreLivesOf, AreRunsOn, Follows, IsIdleOn, IsLeft, IsLifeOn, IsReadBack, Run, dues, kept_of, records_of, records_read}
 use Rattle.lives_law.proofs.Along.{replayed-sound}
 use Rattle.lives_law.proofs.Back.{dues-back}

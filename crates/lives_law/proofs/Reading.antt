@@ -1,5 +1,5 @@
 -- The records that a start reads from a file, and those of the calls after it.
-use Rattle.std.proofs.Common.{refl, sym, subst, ap, ◌∙◌, append_assoc, append-nil}
+use Rattle.std.proofs.Common.{refl, sym, ap, ◌∙◌, append_assoc, append-nil}
 use Rattle.std.specs.Prelude.{◌≡◌, ℕ, ◌+◌, suc, Bool, true, false, cond, fold, List, [], ◌∷◌, ◌++◌, Option, Some, None, Result, Ok, Err}
 use Rattle.wire_bcs.specs.declared.fault.WireFault.{WireFault}
 use Rattle.chain_types.specs.declared.objects.Object.{Object}

@@ -11,7 +11,7 @@ use Rattle.protocol_spec.proofs.ListLemmas.{front_then, front_whole, has_left}
 use Rattle.protocol_spec.specs.Chain.Words.{Has, IsFront}
 use Rattle.protocol_spec.specs.Chain.Certificates.{Rules}
 use Rattle.protocol_spec.specs.Member.Member.{Member, state}
-use Rattle.protocol_spec.specs.Member.Calls.{Call, acks, due, ends, votes}
+use Rattle.protocol_spec.specs.Member.Calls.{Call, due, ends}
 use Rattle.world_spec.specs.World.{appended}
 use Rattle.safety_law.proofs.Allowed.{due-allowed}
 use Rattle.lives_law.specs.Lives.{Answered, AreLives, AreTwoVotes, Binds, IsAck, IsEnd, IsKeptVote, IsVote, Life, NothingIsTakenBack, all_answered, last_records, member_at, records_behind}

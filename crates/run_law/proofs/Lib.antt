@@ -9,7 +9,6 @@ pub mod ScenePosts
 pub mod SceneSees
 pub mod SceneSteps
 pub mod SceneGrowth
-pub mod SceneLines
 pub mod SceneRecords
 pub mod SceneCounted
 pub mod SceneStarts

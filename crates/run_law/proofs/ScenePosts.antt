@@ -1,34 +1,23 @@
 -- The members of a world as they stand: what a call, a stop and a start do to them.
 use Rattle.std.proofs.Common.{refl, sym, ap, ◌∙◌, append-nil, arith}
-use Rattle.std.specs.Prelude.{◌≡◌, ℕ, ◌+◌, zero, suc, Bool, true, false, cond, List, [], ◌∷◌, ◌++◌, map, slice_get, slice_set, Option, Some, None, option_map, Result, Ok, Err}
+use Rattle.std.specs.Prelude.{◌≡◌, ℕ, ◌+◌, zero, suc, Bool, true, false, cond, List, [], ◌∷◌, ◌++◌, map, slice_get, slice_set, Option, Some, None, option_map}
 use Rattle.journal_core.specs.declared.records.Record.{Record}
 use Rattle.protocol_spec.proofs.ListLemmas.{set_same}
 use Rattle.protocol_spec.specs.Member.Member.{Member, state}
-use Rattle.protocol_spec.specs.Member.Calls.{Call, after_due, due, votes, holds, sees, runs, closes, ends, turns, acks, see_answer, run_answer, end_answer, end_cases, ack_answer, acknowledged, halted}
+use Rattle.protocol_spec.specs.Member.Calls.{Call, after_due, due}
 use Rattle.world_spec.specs.Setting.{Setting}
 use Rattle.world_spec.specs.World as worlds
-use Rattle.world_spec.specs.World.{Said, World, Reached, finds_down, stops, answers, appended, behind, called_in, called_seat, member_in, reached, reached_at, reached_seat, reached_up, said_by, stopped_seat, called_over, reached_over, sealed_by, stated, answered_statement, built_statements, ran_statements, checkpoint_statement}
+use Rattle.world_spec.specs.World.{Said, World, Reached, finds_down, stops, answers, appended, behind, called_in, called_seat, honest_seat, member_in, reached, reached_at, reached_seat, reached_up, seat_is, stopped_seat, called_over, reached_over, sealed_by}
 use Rattle.world_spec.specs.Step.{on_seat}
+use Rattle.world_spec.proofs.Plain.{IsPlain, plain_in}
 use Rattle.safety_law.proofs.Apart.{state-push}
 use Rattle.safety_law.proofs.InWorld.{answered-due}
 use Rattle.world_spec.specs.Terms.{terms_of}
 use Rattle.world_spec.specs.Seats.{Seated}
-use Rattle.world_spec.specs.Posts.{Post, changed_at, post_behind, posts_behind, posts_with, reached_in, reached_post, reached_standing, seat_at, seat_behind, stated_in}
+use Rattle.world_spec.specs.Posts.{Post, changed_at, post_behind, post_honest, posts_behind, posts_with, reached_in, reached_post, reached_standing, seat_at, seat_behind, stated_in}
 use Rattle.world_spec.specs.Scene.{Scene}
-use Rattle.world_spec.specs.SceneSteps.{asked_scene, called_scene}
+use Rattle.world_spec.specs.SceneSteps.{called_scene}
 use Rattle.world_spec.specs.SceneWorlds.{post_of, posts_from, scene_of}
-use Rattle.protocol_spec.specs.Member.Versions.{Execution, execution_of}
-use Rattle.protocol_spec.specs.Chain.Words.{first_some, refused_or, unless_refused}
-use Rattle.protocol_spec.specs.declared.answers.Seen.{Seen}
-use Rattle.protocol_spec.specs.declared.answers.Ran.{Ran}
-use Rattle.protocol_spec.specs.declared.refusals.SeeRefusal.{SeeRefusal}
-use Rattle.protocol_spec.specs.declared.refusals.RunRefusal.{RunRefusal}
-use Rattle.protocol_spec.specs.declared.refusals.EndRefusal.{EndRefusal}
-use Rattle.protocol_spec.specs.declared.refusals.AckRefusal.{AckRefusal}
-use Rattle.protocol_spec.specs.declared.refusals.AckRefusal.TheVariants as no_ack
-use Rattle.digest_core.specs.declared.Digest.{Digest}
-use Rattle.checkpoint_core.specs.declared.checkpoints.Checkpoint.{Checkpoint}
-use Rattle.chain_messages.specs.declared.messages.Statement.TheVariants as statement
 
 -- ---- the member at a number
 
@@ -53,6 +42,12 @@ pub posts-set : (s : Setting) (k : ℕ) (seats : List worlds.Seat) (m : ℕ) (se
 posts-set s k [] m seat = refl
 posts-set s k (x ∷ xs) zero seat = refl
 posts-set s k (x ∷ xs) (suc m) seat = ap (λ (ps : List Post). post_of s k x ∷ ps) (posts-set s (suc k) xs m seat)
+
+-- honest in both
+pub post-honest : (s : Setting) (k : ℕ) (seats : List worlds.Seat) (m : ℕ) → honest_seat (slice_get seats m) ≡ seat_is post_honest (slice_get (posts_from s k seats) m)
+post-honest s k [] m = refl
+post-honest s k (seat ∷ seats) zero = refl
+post-honest s k (seat ∷ seats) (suc m) = post-honest s (suc k) seats m
 
 -- ---- what becomes of a call
 
@@ -163,80 +158,10 @@ module _ (s : Setting) where
       ∙ ap (λ (posts : List Post). with_both w posts (called_in s w m call).said) (sym (posts-same w m call))
       ∙ ap (λ (said : List Said). with_both w (posts_behind s.rules (posts_from s 0 w.seats) m call) said) (sym (said-same w m call))
 
-  -- no seal is kept of what a call states that asks for no vote
-  abbrev pub IsPlain : Call → Type 0
-  IsPlain call = (m : ℕ) (before : Member) → map (sealed_by s.seal m) (stated s.rules before call) ≡ map (said_by m) (stated s.rules before call)
-
-  plain-in : (m : ℕ) (call : Call) → IsPlain call → (o : Reached) → map (sealed_by s.seal m) (stated_in s.rules call o) ≡ map (said_by m) (stated_in s.rules call o)
-  plain-in m call plain finds_down = refl
-  plain-in m call plain (stops kept x) = refl
-  plain-in m call plain (answers before x) = plain m before
-
-  pub called-same : (w : World) (m : ℕ) (call : Call) → IsPlain call → scene_of s (called_in s w m call) ≡ called_scene s.rules (scene_of s w) m call
+  pub called-same : (w : World) (m : ℕ) (call : Call) → IsPlain s.seal s.rules call → scene_of s (called_in s w m call) ≡ called_scene s.rules (scene_of s w) m call
   called-same w m call plain =
       sealed-same w m call
-      ∙ ap (λ (new : List Said). with_both w (posts_behind s.rules (posts_from s 0 w.seats) m call) (w.said ++ new)) (plain-in m call plain (reached_in s.rules (posts_from s 0 w.seats) m call))
-
-  plain-built : (m : ℕ) (cs : List Checkpoint) → map (sealed_by s.seal m) (map checkpoint_statement cs) ≡ map (said_by m) (map checkpoint_statement cs)
-  plain-built m [] = refl
-  plain-built m (c ∷ cs) = ap (λ (xs : List Said). said_by m (checkpoint_statement c) ∷ xs) (plain-built m cs)
-
-  plain-seen : (m : ℕ) (answer : Result Seen SeeRefusal) → map (sealed_by s.seal m) (built_statements answer) ≡ map (said_by m) (built_statements answer)
-  plain-seen m (Ok seen) = plain-built m seen.built
-  plain-seen m (Err refusal) = refl
-
-  plain-ran : (m : ℕ) (answer : Result Ran RunRefusal) → map (sealed_by s.seal m) (ran_statements answer) ≡ map (said_by m) (ran_statements answer)
-  plain-ran m (Ok ran) = plain-built m ran.built
-  plain-ran m (Err refusal) = refl
-
-  plain-ended : (m epoch : ℕ) (refusal : Option EndRefusal) → map (sealed_by s.seal m) (answered_statement (unless_refused refusal (statement.End epoch))) ≡ map (said_by m) (answered_statement (unless_refused refusal (statement.End epoch)))
-  plain-ended m epoch None = refl
-  plain-ended m epoch (Some refusal) = refl
-
-  plain-acked : (m : ℕ) (before : Member) (tx : Digest) (stopped : Option AckRefusal) (x : Option Execution)
-      → map (sealed_by s.seal m) (answered_statement (refused_or stopped (acknowledged before tx x))) ≡ map (said_by m) (answered_statement (refused_or stopped (acknowledged before tx x)))
-  plain-acked m before tx None None = refl
-  plain-acked m before tx None (Some x) = refl
-  plain-acked m before tx (Some refusal) x = refl
-
-  plain-holds : (bytes : List ℕ) → IsPlain (holds bytes)
-  unfolding stated
-  plain-holds bytes m before = refl
-
-  pub plain-sees : (number : ℕ) (bytes : List ℕ) → IsPlain (sees number bytes)
-  unfolding stated
-  plain-sees number bytes m before = plain-seen m (see_answer s.rules before number bytes)
-
-  plain-runs : IsPlain runs
-  unfolding stated
-  plain-runs m before = plain-ran m (run_answer s.rules before)
-
-  plain-closes : IsPlain closes
-  unfolding stated
-  plain-closes m before = refl
-
-  plain-ends : IsPlain ends
-  unfolding stated end_answer
-  plain-ends m before = plain-ended m before.epoch (first_some (end_cases before))
-
-  plain-turns : IsPlain turns
-  unfolding stated
-  plain-turns m before = refl
-
-  pub plain-acks : (tx : Digest) → IsPlain (acks tx)
-  unfolding stated ack_answer
-  plain-acks tx m before = plain-acked m before tx (halted no_ack.Halted before) (execution_of before.executed tx)
-
-  -- what any call makes of the scene
-  pub asked-call : (w : World) (m : ℕ) (call : Call) → scene_of s (called_in s w m call) ≡ asked_scene s.seal s.rules (scene_of s w) m call
-  asked-call w m (votes bytes) = sealed-same w m (votes bytes)
-  asked-call w m (holds bytes) = called-same w m (holds bytes) (plain-holds bytes)
-  asked-call w m (sees number bytes) = called-same w m (sees number bytes) (plain-sees number bytes)
-  asked-call w m runs = called-same w m runs plain-runs
-  asked-call w m closes = called-same w m closes plain-closes
-  asked-call w m ends = called-same w m ends plain-ends
-  asked-call w m turns = called-same w m turns plain-turns
-  asked-call w m (acks tx) = called-same w m (acks tx) (plain-acks tx)
+      ∙ ap (λ (new : List Said). with_both w (posts_behind s.rules (posts_from s 0 w.seats) m call) (w.said ++ new)) (plain_in s.seal s.rules m call plain (reached_in s.rules (posts_from s 0 w.seats) m call))
 
   -- ---- one seat changes
 

@@ -24,9 +24,8 @@ use Rattle.world_spec.specs.SceneSteps as scenes
 use Rattle.world_spec.specs.SceneSteps.{AddsLine, MayAddLine, Work, idle, asks, hands, ack_work, asked, left_if, next_on, records_left, sees_left, work_by, work_of}
 use Rattle.world_spec.specs.SceneWorlds.{HasRoom, IsFront, Shows, Tells, TellsFront, journal_in, posts_from, scene_of, spelled}
 use Rattle.safety_law.proofs.Steps.{Keeps, step-move}
-use Rattle.run_law.proofs.ScenePosts.{reached-same}
+use Rattle.run_law.proofs.ScenePosts.{post-honest, reached-same}
 use Rattle.run_law.proofs.SceneSees.{IsUp, IsDown, count-same, down-next, down-step, next-same, stands, up-next, up-next-on}
-use Rattle.run_law.proofs.SceneSteps.{bare-honest}
 
 -- ---- lists
 
@@ -185,7 +184,7 @@ module _ (s : Setting) where
   ack-does : (w : World) (m : ℕ) (spoiled : Bool) (t : Option Made) → Does w (ack_work (scene_of s w) m t) (acked s w m spoiled t)
   ack-does w m spoiled None = λ k. refl
   ack-does w m spoiled (Some t) =
-      subst (λ (b : Bool). Does w (cond b (asks m (acks t.digest)) idle) (acked s w m spoiled (Some t))) (bare-honest s 0 w.seats m)
+      subst (λ (b : Bool). Does w (cond b (asks m (acks t.digest)) idle) (acked s w m spoiled (Some t))) (post-honest s 0 w.seats m)
       (ack-if w m (acks t.digest) (false_ack s w t spoiled) (is_honest w m))
 
   move-does : (w : World) (mv : Move) → Does w (work_by (scene_of s w) mv) (moved (by_records s) s w mv)

@@ -3,8 +3,7 @@ use Rattle.std.proofs.Common.{refl, sym, subst, ap, ◌∙◌, inl, inr}
 use Rattle.std.specs.Prelude.{◌≡◌, ◌⊎◌, ℕ, zero, suc, min, Bool, true, false, cond, List, [], ◌∷◌, slice_get, Option, Some, None, option_map, option_and_then}
 use Rattle.chain_messages.specs.Messages as messages
 use Rattle.chain_messages.specs.declared.messages.Entry.{Entry}
-use Rattle.journal_core.specs.declared.records.Record.{Record}
-use Rattle.protocol_spec.proofs.ListLemmas.{set_get, each_at, each_join}
+use Rattle.protocol_spec.proofs.ListLemmas.{each_at, each_join}
 use Rattle.protocol_spec.specs.Chain.Words.{Each}
 use Rattle.protocol_spec.specs.Member.Member.{Member}
 use Rattle.protocol_spec.specs.Member.Calls.{Call, sees, due}
@@ -15,12 +14,13 @@ use Rattle.world_spec.specs.Step.{entries_left}
 use Rattle.world_spec.specs.Assumptions.{call_list, see_calls}
 use Rattle.world_spec.specs.Terms.{terms_of}
 use Rattle.world_spec.specs.Posts.{Post, seat_at}
-use Rattle.world_spec.specs.Scene.{Scene, bare_world}
+use Rattle.world_spec.specs.Scene.{post_world}
 use Rattle.world_spec.specs.SceneSteps as scenes
 use Rattle.world_spec.specs.SceneSteps.{next_on, seat_state, sees_to, standing_at, state_at}
 use Rattle.world_spec.specs.SceneWorlds.{post_of, scene_of}
 use Rattle.safety_law.proofs.Growth.{called_if-same}
-use Rattle.run_law.proofs.ScenePosts.{called-same, place, posts-get, plain-sees}
+use Rattle.world_spec.proofs.Plain.{plain_sees}
+use Rattle.run_law.proofs.ScenePosts.{called-same, place, posts-get}
 
 -- a member is there and up
 pub record IsUp (w : World) (m : ℕ) : Type 0 where
@@ -97,10 +97,10 @@ module _ (s : Setting) where
   up-next w m is = ap (λ (o : Option Member). option_and_then (next_call_of w) o) (up-member w m is)
 
   pub up-next-on : (w : World) (m : ℕ) (is : IsUp w m) → next_on (scene_of s w) m ≡ next_call_of w (member_in s is.seat)
-  up-next-on w m is = ap (λ (o : Option Member). option_and_then (next_call_of (bare_world (scene_of s w))) o) (up-state w m is)
+  up-next-on w m is = ap (λ (o : Option Member). option_and_then (next_call_of (post_world (scene_of s w))) o) (up-state w m is)
 
   pub down-next : (w : World) (m : ℕ) → IsDown s w m → next_on (scene_of s w) m ≡ None
-  down-next w m is = ap (λ (o : Option Member). option_and_then (next_call_of (bare_world (scene_of s w))) o) is.state
+  down-next w m is = ap (λ (o : Option Member). option_and_then (next_call_of (post_world (scene_of s w))) o) is.state
 
   pub down-step : (w : World) (m : ℕ) (call : Option Call) → IsDown s w m → called_if s w m call ≡ w
   down-step w m None is = refl
@@ -108,7 +108,7 @@ module _ (s : Setting) where
 
   step-if : (w : World) (m number : ℕ) (e : Option Entry) → scene_of s (called_if s w m (option_map (numbered_call number) e)) ≡ scenes.called_if s.rules (scene_of s w) m (option_map (numbered_call number) e)
   step-if w m number None = refl
-  step-if w m number (Some e) = called-same s w m (numbered_call number e) (plain-sees s number (messages.entry.spell e))
+  step-if w m number (Some e) = called-same s w m (numbered_call number e) (plain_sees s.seal s.rules number (messages.entry.spell e))
 
   step-by : (w : World) (m : ℕ) → IsUp w m ⊎ IsDown s w m → scene_of s (called_if s w m (next_call s w m)) ≡ scenes.called_if s.rules (scene_of s w) m (next_on (scene_of s w) m)
   step-by w m (inl is) =
@@ -124,41 +124,20 @@ module _ (s : Setting) where
 
   -- ---- this many entries
 
-  pub sees-same : (n : ℕ) (w : World) (m : ℕ) → scene_of s (sees_on s n w m) ≡ sees_to s.rules n (scene_of s w) m
-  sees-same zero w m = refl
-  sees-same (suc n) w m = sees-same n (called_if s w m (next_call s w m)) m ∙ ap (λ (x : Scene). sees_to s.rules n x m) (next-same w m)
-
   down-sees : (n : ℕ) (w : World) (m : ℕ) → IsDown s w m → sees_on s n w m ≡ w
   down-sees zero w m is = refl
   down-sees (suc n) w m is = ap (λ (v : World). sees_on s n v m) (down-step w m (next_call s w m) is) ∙ down-sees n w m is
 
   count-by : (w : World) (m n : ℕ) → IsUp w m ⊎ IsDown s w m
-      → sees_on s (min n (entries_left w (member_at s w m))) w m ≡ sees_on s (min n (entries_left (bare_world (scene_of s w)) (state_at (scene_of s w) m))) w m
+      → sees_on s (min n (entries_left w (member_at s w m))) w m ≡ sees_on s (min n (entries_left (post_world (scene_of s w)) (state_at (scene_of s w) m))) w m
   count-by w m n (inl is) =
       ap (λ (o : Option Member). sees_on s (min n (entries_left w o)) w m) (up-member w m is)
-      ∙ sym (ap (λ (o : Option Member). sees_on s (min n (entries_left (bare_world (scene_of s w)) o)) w m) (up-state w m is))
-  count-by w m n (inr is) = down-sees (min n (entries_left w (member_at s w m))) w m is ∙ sym (down-sees (min n (entries_left (bare_world (scene_of s w)) (state_at (scene_of s w) m))) w m is)
+      ∙ sym (ap (λ (o : Option Member). sees_on s (min n (entries_left (post_world (scene_of s w)) o)) w m) (up-state w m is))
+  count-by w m n (inr is) = down-sees (min n (entries_left w (member_at s w m))) w m is ∙ sym (down-sees (min n (entries_left (post_world (scene_of s w)) (state_at (scene_of s w) m))) w m is)
 
   -- the scene counts the entries of a member that is up
-  pub count-same : (w : World) (m n : ℕ) → sees_on s (min n (entries_left w (member_at s w m))) w m ≡ sees_on s (min n (entries_left (bare_world (scene_of s w)) (state_at (scene_of s w) m))) w m
+  pub count-same : (w : World) (m n : ℕ) → sees_on s (min n (entries_left w (member_at s w m))) w m ≡ sees_on s (min n (entries_left (post_world (scene_of s w)) (state_at (scene_of s w) m))) w m
   count-same w m n = count-by w m n (stands w m)
-
-  -- ---- a member that answers stays up
-
-  up-called : (w : World) (m : ℕ) (call : Call) (is : IsUp w m) → called_in s w m call ≡ behind s w m call is.seat (reached_seat s call is.seat)
-  unfolding called_over
-  up-called w m call is = ap (λ (o : Option worlds.Seat). called_seat s w m call o) is.at
-
-  up-reached : (w : World) (m : ℕ) (call : Call) (is : IsUp w m) → reached s w m call ≡ reached_seat s call is.seat
-  unfolding reached_over
-  up-reached w m call is = ap (λ (o : Option worlds.Seat). reached_at s call o) is.at
-
-  pub up-behind : (w : World) (m : ℕ) (call : Call) (before : Member) (x : Option Record) → IsUp w m → reached s w m call ≡ answers before x → IsUp (called_in s w m call) m
-  up-behind w m call before x is e =
-      let seat : worlds.Seat = record is.seat { records = appended is.seat.records x } in
-      let same : called_in s w m call ≡ behind s w m call is.seat (answers before x) =
-      up-called w m call is ∙ ap (λ (r : Reached). behind s w m call is.seat r) (sym (up-reached w m call is) ∙ e) in
-      record { seat = seat; at = ap (λ (v : World). slice_get v.seats m) same ∙ set_get w.seats m is.seat seat is.at; up = is.up }
 
   -- ---- the calls that hand in entries of which Q holds
 

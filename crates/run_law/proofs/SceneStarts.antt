@@ -48,7 +48,7 @@ use Rattle.protocol_spec.specs.Member.Replay.{is_allowed}
 use Rattle.schedule_text.specs.declared.words.Event.{Event}
 use Rattle.world_spec.specs.Setting.{Trust, Setting}
 use Rattle.world_spec.specs.World as worlds
-use Rattle.world_spec.specs.World.{Made, World, is_honest, member_at, new_world, stated, voted_statement}
+use Rattle.world_spec.specs.World.{Made, World, honest_in, member_at, new_world, stated, voted_statement}
 use Rattle.world_spec.specs.Names.{cert_named, made_named}
 use Rattle.world_spec.specs.Moves.{Move, requests, delivers, claims, vote_named, hold_named, direct, claims_ack, held_call, move_of, signed_call}
 use Rattle.world_spec.specs.Step.{entries_left, happens}
@@ -62,7 +62,8 @@ use Rattle.safety_law.proofs.Allowed.{due-allowed}
 use Rattle.safety_law.proofs.Steps.{HandsNoEntry, no-entry}
 use Rattle.run_law.proofs.Members.{AreOrigins, IsDigest, IsFitMember, IsFitStatement, fit-none, fit-step, stated-fit, tagged-digest}
 use Rattle.run_law.proofs.Fits.{origins-fit}
-use Rattle.world_spec.specs.Scene.{Scene, bare_world}
+use Rattle.world_spec.specs.Posts.{post_honest}
+use Rattle.world_spec.specs.Scene.{Scene, post_world}
 use Rattle.world_spec.specs.SceneSteps.{idle, asks, ack_work, asked, work_by, work_of}
 use Rattle.world_spec.specs.SceneWorlds.{AreKeepable, IsKeepable, ReadsFit, Restarts, Shows, WorkReadsFit, scene_of, spelled}
 use Rattle.run_law.proofs.SceneCounted.{few-rounds, holds-few}
@@ -393,7 +394,7 @@ module _ (s : Setting) where
 
   ack-work : (w : World) (m : ℕ) (t : Option Made) → WorkReadsFit (ack_work (scene_of s w) m t)
   ack-work w m None = tt
-  ack-work w m (Some t) = ack-if m t.digest (is_honest (bare_world (scene_of s w)) m)
+  ack-work w m (Some t) = ack-if m t.digest (honest_in post_honest (post_world (scene_of s w)) m)
 
   move-reads : (w : World) (mv : Move) → Each ReadsFit (calls_by s w mv) → WorkReadsFit (work_by (scene_of s w) mv)
   move-reads w (requests m (vote_named tx)) fits = vote-work m (made_named w tx) fits

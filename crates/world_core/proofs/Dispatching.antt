@@ -7,9 +7,11 @@ use Rattle.schedule_text.specs.declared.words.Event.{Event}
 use Rattle.schedule_text.specs.declared.words.Event.TheVariants as events
 use Rattle.wire_bcs.specs.declared.seq.OutOfMemory.{OutOfMemory}
 use Rattle.world_lines.specs.Pushed.{GrowsToward}
+use Rattle.world_spec.specs.World.{Said}
 use Rattle.world_spec.specs.Moves.{Move, is_start_move, starts_again, move_of}
 use Rattle.world_spec.specs.Scene.{Scene, rules_in}
 use Rattle.world_spec.specs.SceneSteps.{lines_in, steps_to, work_of}
+use Rattle.world_core.specs.Steps.{lines_after, scene_after}
 use Rattle.world_spec.specs.SceneWorlds.{is_restart}
 use Rattle.protocol_spec.specs.Chain.Certificates.{Rules}
 use Rattle.world_spec.specs.Setting.{Trust}
@@ -23,7 +25,8 @@ use Rattle.world_core.specs.Restarts.{Accepting, MayStart, RestartsAs}
 use Rattle.world_core.specs.Served.{KeeperAfter, LineAfter, StepAfter, call_outcome, quiet_outcome}
 use Rattle.world_core.proofs.Cuts.{idle_line_on, loud_posts, on_err, quiet_line, same_books, start_posts, still_books, still_posts}
 use Rattle.world_core.proofs.Leaving.{quiet_leaves}
-use Rattle.world_core.proofs.Stated.{unsaid_start}
+use Rattle.world_core.proofs.Stated.{grew_as, unsaid_start}
+use Rattle.world_core.proofs.Steps.{lines_are, said_is, step_is}
 use Rattle.world_core.proofs.Stays.{restart_stays, step_stays}
 
 pub on_ok : {A E : Type 0} (P : Type 0) (result : Result A E) → P → OnOk result P
@@ -45,13 +48,17 @@ no_start : (accepts : Accepting) (told : Option Journals) (old new : Scene) (mv 
 no_start accepts told old new (starts_again m) result other = absurd (cc)
 no_start accepts told old new mv result other = tt
 
+-- what was said goes on toward what the step of the definitions says
+grew_by : (trust : Trust) (sc : Scene) (e : Event) (said : List Said) → GrowsToward sc.said said (scene_after trust sc e).said → GrowsToward sc.said said (steps_to trust sc e).said
+grew_by trust sc e said is = grew_as sc.said said (scene_after trust sc e).said (steps_to trust sc e).said (sym (said_is trust sc e)) is
+
 -- ---- a line that calls a member
 
 module _ (trust : Trust) (sc new : Scene) (e : Event) (before now : Option Journals) (other : is_restart e ≡ false) where
   step_of : (given : Result (List Line) SeatFault) → LineAfter trust sc e new before now given → StepAfter trust sc e new before now (call_outcome given)
   step_of (Ok lines) is = record {
-    world = λ _. is.world;
-    lines = λ _. is.lines;
+    world = λ _. is.world ∙ sym (step_is trust sc e other);
+    lines = λ _. is.lines ∙ sym (lines_are trust sc e other);
     kept = is.kept;
     restart = no_start trust.accepts before sc new (move_of e) (let y : Result (List Line) WorldFault = Ok lines in y) other;
     stay = step_stays trust sc new e is.world;
@@ -70,7 +77,7 @@ module _ (trust : Trust) (sc new : Scene) (e : Event) (before now : Option Journ
     cut = is.cut;
     books = is.books;
     quiet = is.quiet;
-    said = is.said;
+    said = grew_by trust sc e new.said is.said;
     bad = λ m place f. absurd (keep_good m place f);
   }
   step_of (Err seat_fault.OutOfMemory) is = record {
@@ -82,7 +89,7 @@ module _ (trust : Trust) (sc new : Scene) (e : Event) (before now : Option Journ
     cut = is.cut;
     books = is.books;
     quiet = is.quiet;
-    said = is.said;
+    said = grew_by trust sc e new.said is.said;
     bad = λ m place f. absurd (memory_good m place f);
   }
 
@@ -91,8 +98,8 @@ module _ (trust : Trust) (sc new : Scene) (e : Event) (before now : Option Journ
       subst (λ (x : Event). StepAfter trust sc x new before now result) (sym same) (subst (λ (y : Result (List Line) WorldFault). StepAfter trust sc e new before now y) (sym outcome) (step_of given is))
 
 -- that hands it entries
-pub see_after : (trust : Trust) (sc new : Scene) (e : Event) (before now : Option Journals) (given : Result (List Line) SeatFault) → is_quiet e ≡ false → OnOk given (new ≡ steps_to trust sc e) → IfOk given (λ lines. lines ≡ lines_in trust sc e)
-    → LeavesAs (rules_in trust.accepts sc) sc (work_of sc e) before now given → OnErr given (LineCut (rules_in trust.accepts sc) sc (work_of sc e) new.posts before now) → books_in new ≡ books_in sc → OnErr given (GrowsToward sc.said new.said (steps_to trust sc e).said)
+pub see_after : (trust : Trust) (sc new : Scene) (e : Event) (before now : Option Journals) (given : Result (List Line) SeatFault) → is_quiet e ≡ false → OnOk given (new ≡ scene_after trust sc e) → IfOk given (λ lines. lines ≡ lines_after trust sc e)
+    → LeavesAs (rules_in trust.accepts sc) sc (work_of sc e) before now given → OnErr given (LineCut (rules_in trust.accepts sc) sc (work_of sc e) new.posts before now) → books_in new ≡ books_in sc → OnErr given (GrowsToward sc.said new.said (scene_after trust sc e).said)
     → LineAfter trust sc e new before now given
 see_after trust sc new e before now given loud world lines kept cut books said = record {
   world = world;
@@ -107,11 +114,11 @@ see_after trust sc new e before now given loud world lines kept cut books said =
 -- ---- a line that touches no record
 
 module _ (trust : Trust) (sc new : Scene) (e : Event) (told : Option Journals) (other : is_restart e ≡ false) (quiet : is_quiet e ≡ true) where
-  still_step : (given : Result (List Line) OutOfMemory) → OnOk given (new ≡ steps_to trust sc e) → IfOk given (λ lines. lines ≡ lines_in trust sc e) → OnErr given (SeenCut still_in trust sc (orders_end e) new) → OnErr given (GrowsToward sc.said new.said (steps_to trust sc e).said)
+  still_step : (given : Result (List Line) OutOfMemory) → OnOk given (new ≡ scene_after trust sc e) → IfOk given (λ lines. lines ≡ lines_after trust sc e) → OnErr given (SeenCut still_in trust sc (orders_end e) new) → OnErr given (GrowsToward sc.said new.said (scene_after trust sc e).said)
       → StepAfter trust sc e new told told (quiet_outcome given)
   still_step (Ok given) world lines still said = record {
-    world = λ _. world;
-    lines = λ _. lines;
+    world = λ _. world ∙ sym (step_is trust sc e other);
+    lines = λ _. lines ∙ sym (lines_are trust sc e other);
     kept = quiet_leaves trust sc e told (let y : Result (List Line) WorldFault = Ok given in y) quiet;
     restart = no_start trust.accepts told sc new (move_of e) (let y : Result (List Line) WorldFault = Ok given in y) other;
     stay = step_stays trust sc new e world;
@@ -130,12 +137,12 @@ module _ (trust : Trust) (sc new : Scene) (e : Event) (told : Option Journals) (
     cut = quiet_line trust (rules_in trust.accepts sc) sc new (orders_end e) (work_of sc e) told still;
     books = still_books trust sc new (orders_end e) still;
     quiet = λ _. still_posts trust sc new (orders_end e) still;
-    said = said;
+    said = grew_by trust sc e new.said said;
     bad = λ m place f. absurd (memory_good m place f);
   }
 
   pub quiet_step : (whole : Event) (given : Result (List Line) OutOfMemory) (result : Result (List Line) WorldFault) → whole ≡ e → result ≡ quiet_outcome given
-      → OnOk given (new ≡ steps_to trust sc e) → IfOk given (λ lines. lines ≡ lines_in trust sc e) → OnErr given (SeenCut still_in trust sc (orders_end e) new) → OnErr given (GrowsToward sc.said new.said (steps_to trust sc e).said)
+      → OnOk given (new ≡ scene_after trust sc e) → IfOk given (λ lines. lines ≡ lines_after trust sc e) → OnErr given (SeenCut still_in trust sc (orders_end e) new) → OnErr given (GrowsToward sc.said new.said (scene_after trust sc e).said)
       → StepAfter trust sc whole new told told result
   quiet_step whole given result same outcome world lines still said =
       subst (λ (x : Event). StepAfter trust sc x new told told result) (sym same) (subst (λ (y : Result (List Line) WorldFault). StepAfter trust sc e new told told y) (sym outcome) (still_step given world lines still said))
@@ -177,7 +184,7 @@ start_step trust sc new m whole before now result same is keeps stay books =
       cut = starts_cut (rules_in trust.accepts sc) sc new m before now result stay keeps;
       books = starts_books trust sc new None result books;
       quiet = start_posts sc new (events.Restart m) result stay;
-      said = unsaid_start trust sc new (events.Restart m) result stay;
+      said = subst (λ (xs : List Said). OnErr result (GrowsToward sc.said new.said xs)) (sym (said_is trust sc (events.Restart m))) (unsaid_start trust sc new (events.Restart m) result stay);
       bad = λ n place f. refl;
     })
 

@@ -5,7 +5,7 @@ use Rattle.digest_core.specs.declared.Digest.{Digest}
 use Rattle.chain_types.specs.declared.objects.ObjectKey.{ObjectKey}
 use Rattle.protocol_spec.specs.Chain.Words.{first_some}
 use Rattle.world_spec.specs.Posts.{Post}
-use Rattle.world_spec.specs.SceneSteps.{held_by, held_in}
+use Rattle.world_core.specs.Steps.{held_by, held_in}
 
 none_first : (o : Option Digest) → first_some (None ∷ o ∷ []) ≡ o
 none_first None = refl

@@ -28,4 +28,5 @@ pub mod Asked
 pub mod Serving
 pub mod Dispatching
 pub mod Cuts
+pub mod Steps
 mod First

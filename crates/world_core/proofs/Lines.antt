@@ -15,7 +15,8 @@ use Rattle.world_spec.specs.World.{Made}
 use Rattle.journal_core.specs.declared.records.Record.{Record}
 use Rattle.world_spec.specs.Posts.{AddsAll, AddsFront, AddsLeft, MayAddLeft, list_of, reached_in, record_left}
 use Rattle.world_spec.specs.Scene.{Scene}
-use Rattle.world_spec.specs.SceneSteps.{asks, hold_text_in, send_text_in, vote_lines_in, vote_text_in}
+use Rattle.world_spec.specs.SceneSteps.{asks}
+use Rattle.world_core.specs.Steps.{hold_text_in, send_text_in, vote_lines_in, vote_text_in}
 use Rattle.world_core.specs.Kept.{LeavesAs}
 use Rattle.world_core.specs.Texts.{spelled_cert, spelled_tx}
 

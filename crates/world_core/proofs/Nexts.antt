@@ -16,9 +16,10 @@ use Rattle.world_spec.specs.World.{Said, entries_at, next_call_of, numbered_call
 use Rattle.world_spec.specs.Report.{Lines}
 use Rattle.world_spec.specs.Posts.{AddsAll, AddsFront, Post, list_of, posts_behind, reached_in, record_left, stated_in}
 use Rattle.world_spec.specs.Terms.{Terms}
-use Rattle.world_spec.specs.Scene.{Scene, bare_world, rules_in}
+use Rattle.world_spec.specs.Scene.{Scene, post_world, rules_in}
 use Rattle.world_spec.specs.Seats.{Seated}
-use Rattle.world_spec.specs.SceneSteps.{call_lines_in, called_if, called_scene, left_if, next_on, seat_state, standing_at}
+use Rattle.world_spec.specs.SceneSteps.{called_if, called_scene, left_if, next_on, seat_state, standing_at}
+use Rattle.world_core.specs.Steps.{call_lines_in}
 use Rattle.world_core.specs.Stays.{Stays}
 use Rattle.world_core.specs.Replies.{Leaves, Replies, SaysSee}
 use Rattle.world_core.specs.Sees.{LeavesAll, next_by, next_for, see_replied}
@@ -64,7 +65,7 @@ module _ (posts : List Post) (sequences : List (List Entry)) (m : ℕ) where
     by_some n epoch bytes ended number at found = by_bytes n epoch (Some bytes) ended number at found
 
 -- in a scene it is the definition's
-same_next : (sc : Scene) (o : Option Member) → option_and_then (next_for sc.sequences) o ≡ option_and_then (next_call_of (bare_world sc)) o
+same_next : (sc : Scene) (o : Option Member) → option_and_then (next_for sc.sequences) o ≡ option_and_then (next_call_of (post_world sc)) o
 same_next sc None = refl
 same_next sc (Some m) = refl
 

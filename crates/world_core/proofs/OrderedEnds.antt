@@ -7,11 +7,12 @@ use Rattle.chain_messages.specs.declared.messages.Statement.TheVariants as state
 use Rattle.report_text.specs.declared.lines.OrderEndText.{OrderEndText}
 use Rattle.report_text.specs.declared.lines.OrderEndText.TheVariants as order_end_text
 use Rattle.world_spec.specs.Setting.{Trust}
-use Rattle.world_spec.specs.World.{Said, World, is_honest}
-use Rattle.world_spec.specs.Step.{end_in, end_ordered, honest_end, last_said, open_entries, ordered_end, says}
-use Rattle.world_spec.specs.Report.{honest_end_said, order_end_said}
-use Rattle.world_spec.specs.Scene.{Scene, bare_setting, bare_world}
-use Rattle.world_spec.specs.SceneSteps.{with_order}
+use Rattle.world_spec.specs.World.{Said, WorldOf, honest_in}
+use Rattle.world_spec.specs.Step.{end_in, end_by, honest_end, last_said, open_entries, ordered_end, says}
+use Rattle.world_spec.specs.Report.{honest_end_said, order_end_by}
+use Rattle.world_spec.specs.Posts.{Post, post_honest}
+use Rattle.world_spec.specs.Scene.{Scene, bare_setting, post_world}
+use Rattle.world_core.specs.Steps.{with_order}
 use Rattle.world_lines.specs.Orders.{Orders, sealed_end_by, with_entry}
 use Rattle.world_core.specs.Crews.{honest_flags}
 use Rattle.world_core.specs.Cuts.{SeenCut, end_appended, still_in}
@@ -22,71 +23,71 @@ use Rattle.world_core.proofs.Voting.{honest_same}
 -- ---- whose End it is
 
 module _ (trust : Trust) (v sc : Scene) (m : ℕ) (view : v ≡ sc) where
-  abbrev ordered_by : Bool → Option ℕ → Scene → World
-  ordered_by honest said x = cond honest (honest_end (bare_setting trust x) (bare_world x) m said) (ordered_end (bare_setting trust x) (says trust.seal (bare_world x) m (statement.End x.epoch)) m x.epoch)
+  abbrev ordered_by : Bool → Option ℕ → Scene → WorldOf Post
+  ordered_by honest said x = cond honest (honest_end (bare_setting trust x) (post_world x) m said) (ordered_end (bare_setting trust x) (says trust.seal (post_world x) m (statement.End x.epoch)) m x.epoch)
 
   abbrev said_by : Bool → Option ℕ → Scene → OrderEndText
-  said_by honest said x = cond honest (honest_end_said (bare_world x) said) (order_end_text.Entry (length (open_entries (bare_world x))))
+  said_by honest said x = cond honest (honest_end_said (post_world x) said) (order_end_text.Entry (length (open_entries (post_world x))))
 
   as_ordered : (honest : Bool) (said : Option ℕ) (flags : List Bool) → honest ≡ flag_at (slice_get flags m) → flags ≡ honest_flags v.posts → said ≡ last_said end_in m v.said
-      → with_order sc (ordered_by honest said sc) ≡ with_order sc (end_ordered (bare_setting trust sc) (bare_world sc) m)
+      → with_order sc (ordered_by honest said sc) ≡ with_order sc (end_by post_honest (bare_setting trust sc) (post_world sc) m)
   as_ordered honest said flags flag are last =
       ap (λ (b : Bool). with_order sc (ordered_by b said sc)) (flag ∙ ap (λ (fs : List Bool). flag_at (slice_get fs m)) (are ∙ ap (λ (x : Scene). honest_flags x.posts) view) ∙ honest_same sc.posts m)
-      ∙ ap (λ (o : Option ℕ). with_order sc (ordered_by (is_honest (bare_world sc) m) o sc)) (last ∙ ap (λ (x : Scene). last_said end_in m x.said) view)
+      ∙ ap (λ (o : Option ℕ). with_order sc (ordered_by (honest_in post_honest (post_world sc) m) o sc)) (last ∙ ap (λ (x : Scene). last_said end_in m x.said) view)
 
   as_said : (honest : Bool) (said : Option ℕ) (flags : List Bool) → honest ≡ flag_at (slice_get flags m) → flags ≡ honest_flags v.posts → said ≡ last_said end_in m v.said
-      → said_by honest said sc ≡ order_end_said (bare_world sc) m
+      → said_by honest said sc ≡ order_end_by post_honest (post_world sc) m
   as_said honest said flags flag are last =
       ap (λ (b : Bool). said_by b said sc) (flag ∙ ap (λ (fs : List Bool). flag_at (slice_get fs m)) (are ∙ ap (λ (x : Scene). honest_flags x.posts) view) ∙ honest_same sc.posts m)
-      ∙ ap (λ (o : Option ℕ). said_by (is_honest (bare_world sc) m) o sc) (last ∙ ap (λ (x : Scene). last_said end_in m x.said) view)
+      ∙ ap (λ (o : Option ℕ). said_by (honest_in post_honest (post_world sc) m) o sc) (last ∙ ap (λ (x : Scene). last_said end_in m x.said) view)
 
   -- a faulty member's
   pub faulty_end : (honest : Bool) (flags : List Bool) → honest ≡ flag_at (slice_get flags m) → flags ≡ honest_flags v.posts → honest ≡ false
-      → with_order sc (ordered_end (bare_setting trust sc) (says trust.seal (bare_world sc) m (statement.End sc.epoch)) m sc.epoch) ≡ with_order sc (end_ordered (bare_setting trust sc) (bare_world sc) m)
+      → with_order sc (ordered_end (bare_setting trust sc) (says trust.seal (post_world sc) m (statement.End sc.epoch)) m sc.epoch) ≡ with_order sc (end_by post_honest (bare_setting trust sc) (post_world sc) m)
   faulty_end honest flags flag are is = as_ordered false (last_said end_in m v.said) flags (sym is ∙ flag) are refl
 
   pub faulty_said : (honest : Bool) (flags : List Bool) → honest ≡ flag_at (slice_get flags m) → flags ≡ honest_flags v.posts → honest ≡ false
-      → order_end_text.Entry (length (open_entries (bare_world sc))) ≡ order_end_said (bare_world sc) m
+      → order_end_text.Entry (length (open_entries (post_world sc))) ≡ order_end_by post_honest (post_world sc) m
   faulty_said honest flags flag are is = as_said false (last_said end_in m v.said) flags (sym is ∙ flag) are refl
 
   -- an honest member's that stated none
   pub no_end : (honest : Bool) (flags : List Bool) (said : Option ℕ) → honest ≡ flag_at (slice_get flags m) → flags ≡ honest_flags v.posts → honest ≡ true → said ≡ last_said end_in m v.said → said ≡ None
-      → sc ≡ with_order sc (end_ordered (bare_setting trust sc) (bare_world sc) m)
+      → sc ≡ with_order sc (end_by post_honest (bare_setting trust sc) (post_world sc) m)
   no_end honest flags said flag are is last none = as_ordered true None flags (sym is ∙ flag) are (sym none ∙ last)
 
   pub no_end_said : (honest : Bool) (flags : List Bool) (said : Option ℕ) → honest ≡ flag_at (slice_get flags m) → flags ≡ honest_flags v.posts → honest ≡ true → said ≡ last_said end_in m v.said → said ≡ None
-      → order_end_text.NoStatement ≡ order_end_said (bare_world sc) m
+      → order_end_text.NoStatement ≡ order_end_by post_honest (post_world sc) m
   no_end_said honest flags said flag are is last none = as_said true None flags (sym is ∙ flag) are (sym none ∙ last)
 
   -- one of an epoch before
   pub late_end : (honest : Bool) (flags : List Bool) (said : Option ℕ) (epoch now : ℕ) → honest ≡ flag_at (slice_get flags m) → flags ≡ honest_flags v.posts → honest ≡ true → said ≡ last_said end_in m v.said → said ≡ Some epoch
-      → now ≡ v.epoch → (epoch ≡ now → ⊥) → sc ≡ with_order sc (end_ordered (bare_setting trust sc) (bare_world sc) m)
+      → now ≡ v.epoch → (epoch ≡ now → ⊥) → sc ≡ with_order sc (end_by post_honest (bare_setting trust sc) (post_world sc) m)
   late_end honest flags said epoch now flag are is last some present other =
       let apart = ne_eqb epoch sc.epoch (λ e. other (e ∙ sym (present ∙ ap (λ (x : Scene). x.epoch) view))) in
-      ap (λ (b : Bool). with_order sc (cond b (ordered_end (bare_setting trust sc) (bare_world sc) m epoch) (bare_world sc))) (sym apart)
+      ap (λ (b : Bool). with_order sc (cond b (ordered_end (bare_setting trust sc) (post_world sc) m epoch) (post_world sc))) (sym apart)
       ∙ as_ordered true (Some epoch) flags (sym is ∙ flag) are (sym some ∙ last)
 
   pub late_said : (honest : Bool) (flags : List Bool) (said : Option ℕ) (epoch now : ℕ) → honest ≡ flag_at (slice_get flags m) → flags ≡ honest_flags v.posts → honest ≡ true → said ≡ last_said end_in m v.said → said ≡ Some epoch
-      → now ≡ v.epoch → (epoch ≡ now → ⊥) → order_end_text.NotTaken ≡ order_end_said (bare_world sc) m
+      → now ≡ v.epoch → (epoch ≡ now → ⊥) → order_end_text.NotTaken ≡ order_end_by post_honest (post_world sc) m
   late_said honest flags said epoch now flag are is last some present other =
       let apart = ne_eqb epoch sc.epoch (λ e. other (e ∙ sym (present ∙ ap (λ (x : Scene). x.epoch) view))) in
-      ap (λ (b : Bool). cond b (order_end_text.Entry (length (open_entries (bare_world sc)))) order_end_text.NotTaken) (sym apart)
+      ap (λ (b : Bool). cond b (order_end_text.Entry (length (open_entries (post_world sc)))) order_end_text.NotTaken) (sym apart)
       ∙ as_said true (Some epoch) flags (sym is ∙ flag) are (sym some ∙ last)
 
   -- one of the open epoch
   pub own_end : (honest : Bool) (flags : List Bool) (said : Option ℕ) (epoch now : ℕ) → honest ≡ flag_at (slice_get flags m) → flags ≡ honest_flags v.posts → honest ≡ true → said ≡ last_said end_in m v.said → said ≡ Some epoch
-      → now ≡ v.epoch → epoch ≡ now → with_order sc (ordered_end (bare_setting trust sc) (bare_world sc) m sc.epoch) ≡ with_order sc (end_ordered (bare_setting trust sc) (bare_world sc) m)
+      → now ≡ v.epoch → epoch ≡ now → with_order sc (ordered_end (bare_setting trust sc) (post_world sc) m sc.epoch) ≡ with_order sc (end_by post_honest (bare_setting trust sc) (post_world sc) m)
   own_end honest flags said epoch now flag are is last some present same =
       let open_one : epoch ≡ sc.epoch = same ∙ present ∙ ap (λ (x : Scene). x.epoch) view in
-      ap (λ (n : ℕ). with_order sc (ordered_end (bare_setting trust sc) (bare_world sc) m n)) (sym open_one)
-      ∙ ap (λ (b : Bool). with_order sc (cond b (ordered_end (bare_setting trust sc) (bare_world sc) m epoch) (bare_world sc))) (sym (eq-eqb epoch sc.epoch open_one))
+      ap (λ (n : ℕ). with_order sc (ordered_end (bare_setting trust sc) (post_world sc) m n)) (sym open_one)
+      ∙ ap (λ (b : Bool). with_order sc (cond b (ordered_end (bare_setting trust sc) (post_world sc) m epoch) (post_world sc))) (sym (eq-eqb epoch sc.epoch open_one))
       ∙ as_ordered true (Some epoch) flags (sym is ∙ flag) are (sym some ∙ last)
 
   pub own_said : (honest : Bool) (flags : List Bool) (said : Option ℕ) (epoch now : ℕ) → honest ≡ flag_at (slice_get flags m) → flags ≡ honest_flags v.posts → honest ≡ true → said ≡ last_said end_in m v.said → said ≡ Some epoch
-      → now ≡ v.epoch → epoch ≡ now → order_end_text.Entry (length (open_entries (bare_world sc))) ≡ order_end_said (bare_world sc) m
+      → now ≡ v.epoch → epoch ≡ now → order_end_text.Entry (length (open_entries (post_world sc))) ≡ order_end_by post_honest (post_world sc) m
   own_said honest flags said epoch now flag are is last some present same =
       let open_one : epoch ≡ sc.epoch = same ∙ present ∙ ap (λ (x : Scene). x.epoch) view in
-      ap (λ (b : Bool). cond b (order_end_text.Entry (length (open_entries (bare_world sc)))) order_end_text.NotTaken) (sym (eq-eqb epoch sc.epoch open_one))
+      ap (λ (b : Bool). cond b (order_end_text.Entry (length (open_entries (post_world sc)))) order_end_text.NotTaken) (sym (eq-eqb epoch sc.epoch open_one))
       ∙ as_said true (Some epoch) flags (sym is ∙ flag) are (sym some ∙ last)
 
 -- ---- if memory is refused

@@ -20,7 +20,8 @@ use Rattle.world_spec.specs.Known.{Known, world_with}
 use Rattle.world_spec.specs.Terms.{Terms, rules_for}
 use Rattle.world_spec.specs.Seats.{Seated, rules_of_seat}
 use Rattle.world_spec.specs.Posts.{Post, seat_at}
-use Rattle.world_spec.specs.SceneSteps.{says_in, seat_state}
+use Rattle.world_spec.specs.SceneSteps.{seat_state}
+use Rattle.world_core.specs.Steps.{says_in}
 use Rattle.world_core.specs.Epochs.{ack_statements, ack_text_by, end_statements, end_text_by}
 
 abbrev Accepting : Type 0

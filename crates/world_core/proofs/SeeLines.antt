@@ -17,8 +17,9 @@ use Rattle.world_spec.specs.Report.{none_taken}
 use Rattle.world_spec.specs.Known.{world_with}
 use Rattle.world_spec.specs.Seats.{Seated}
 use Rattle.world_spec.specs.Posts.{AddsAll, AddsFront, Post}
-use Rattle.world_spec.specs.Scene.{Scene, bare_world, rules_in}
-use Rattle.world_spec.specs.SceneSteps.{Work, entries_lines_in, hands, see_halted_in, see_lines_in, seat_state, sees_left, sees_to, standing_at, state_at, worked}
+use Rattle.world_spec.specs.Scene.{Scene, post_world, rules_in}
+use Rattle.world_spec.specs.SceneSteps.{Work, hands, seat_state, sees_left, sees_to, standing_at, state_at}
+use Rattle.world_core.specs.Steps.{entries_lines_in, see_halted_in, see_lines_in, worked}
 use Rattle.world_core.specs.Cuts.{EntriesCut, LineCut}
 use Rattle.world_core.specs.Kept.{LeavesAs}
 use Rattle.world_core.proofs.Cuts.{entries_ended}
@@ -39,7 +40,7 @@ same_pair x y e = cc
 
 -- the work of the line
 abbrev pub see_work : Scene → ℕ → ℕ → Option Member → Work
-see_work sc m e state = hands m (min e (entries_left (bare_world sc) state))
+see_work sc m e state = hands m (min e (entries_left (post_world sc) state))
 
 module _ (trust : Trust) (sc : Scene) (m e : ℕ) where
   abbrev r : Rules
@@ -55,8 +56,8 @@ module _ (trust : Trust) (sc : Scene) (m e : ℕ) where
   -- ---- a member that is down
 
   module _ (down : None ≡ standing_at (slice_get sc.posts m)) where
-    none_left : min e (entries_left (bare_world sc) (state_at sc m)) ≡ 0
-    none_left = ap (λ (s : Option Member). min e (entries_left (bare_world sc) s)) (sym (state_is None down)) ∙ min_none e
+    none_left : min e (entries_left (post_world sc) (state_at sc m)) ≡ 0
+    none_left = ap (λ (s : Option Member). min e (entries_left (post_world sc) s)) (sym (state_is None down)) ∙ min_none e
 
     pub down_world : sc ≡ worked trust.seal r sc (see_work sc m e (state_at sc m))
     down_world = ap (λ (n : ℕ). sees_to r n sc m) (sym none_left)
@@ -65,7 +66,7 @@ module _ (trust : Trust) (sc : Scene) (m e : ℕ) where
     down_lines lines is = is ∙ ap (λ (s : Option Member). see_lines_in trust sc m e s) (state_is None down)
 
     pub down_kept : {A E : Type 0} (told : Option Journals) (result : Result A E) → LeavesAs r sc (see_work sc m e (state_at sc m)) told told result
-    down_kept told result = leaves_none (min e (entries_left (bare_world sc) (state_at sc m))) told result (ap (λ (n : ℕ). sees_left r n sc m) none_left)
+    down_kept told result = leaves_none (min e (entries_left (post_world sc) (state_at sc m))) told result (ap (λ (n : ℕ). sees_left r n sc m) none_left)
 
   -- ---- a member that is up
 
@@ -94,23 +95,23 @@ module _ (trust : Trust) (sc : Scene) (m e : ℕ) where
       rests n = halted_rests r m sc post_here.0 seat post_here.1 post_here.2 fork_here.0 fork_here.1 n
 
       pub halted_world : sc ≡ worked trust.seal r sc (see_work sc m e (state_at sc m))
-      halted_world = sym (rests (min e (entries_left (bare_world sc) (state_at sc m)))).scene
+      halted_world = sym (rests (min e (entries_left (post_world sc) (state_at sc m)))).scene
 
       pub halted_kept : {A E : Type 0} (told : Option Journals) (result : Result A E) → LeavesAs r sc (see_work sc m e (state_at sc m)) told told result
-      halted_kept told result = leaves_none (min e (entries_left (bare_world sc) (state_at sc m))) told result (rests (min e (entries_left (bare_world sc) (state_at sc m)))).records
+      halted_kept told result = leaves_none (min e (entries_left (post_world sc) (state_at sc m))) told result (rests (min e (entries_left (post_world sc) (state_at sc m)))).records
 
       pub halted_lines : (lines : List Line) → lines ≡ line.See m (see_text.Halted (tx_name (world_with sc.known) first) (tx_name (world_with sc.known) second)) ∷ [] → lines ≡ see_lines_in trust sc m e (state_at sc m)
       halted_lines lines is =
           is
           ∙ ap (λ (d : Digest). line.See m (see_text.Halted (tx_name (world_with sc.known) d) (tx_name (world_with sc.known) second)) ∷ []) (sym fork_here.2)
           ∙ ap (λ (d : Digest). line.See m (see_text.Halted (tx_name (world_with sc.known) fork_here.0.first) (tx_name (world_with sc.known) d)) ∷ []) (sym fork_here.3)
-          ∙ sym (ap (λ (o : Option Fork). see_halted_in trust sc m (min e (entries_left (bare_world sc) (Some seat.state))) o) fork_here.1)
+          ∙ sym (ap (λ (o : Option Fork). see_halted_in trust sc m (min e (entries_left (post_world sc) (Some seat.state))) o) fork_here.1)
           ∙ ap (λ (s : Option Member). see_lines_in trust sc m e s) (state_is (Some seat) at)
 
     -- one that takes them
-    module _ (n : ℕ) (many : n ≡ min e (entries_left (bare_world sc) (Some seat.state))) where
-      many_is : n ≡ min e (entries_left (bare_world sc) (state_at sc m))
-      many_is = many ∙ ap (λ (s : Option Member). min e (entries_left (bare_world sc) s)) (state_is (Some seat) at)
+    module _ (n : ℕ) (many : n ≡ min e (entries_left (post_world sc) (Some seat.state))) where
+      many_is : n ≡ min e (entries_left (post_world sc) (state_at sc m))
+      many_is = many ∙ ap (λ (s : Option Member). min e (entries_left (post_world sc) s)) (state_is (Some seat) at)
 
       pub taken_world : (new : Scene) → new ≡ sees_to r n sc m → new ≡ worked trust.seal r sc (see_work sc m e (state_at sc m))
       taken_world new is = is ∙ ap (λ (k : ℕ). sees_to r k sc m) many_is
@@ -133,7 +134,7 @@ module _ (trust : Trust) (sc : Scene) (m e : ℕ) where
       lines_where : (fork : Option Fork) → fork_of seat.state ≡ fork → None ≡ option_map both fork → none_taken m (entries_lines_in trust n sc m) ≡ see_lines_in trust sc m e (state_at sc m)
       lines_where None is none =
           ap (λ (k : ℕ). none_taken m (entries_lines_in trust k sc m)) many
-          ∙ sym (ap (λ (o : Option Fork). see_halted_in trust sc m (min e (entries_left (bare_world sc) (Some seat.state))) o) is)
+          ∙ sym (ap (λ (o : Option Fork). see_halted_in trust sc m (min e (entries_left (post_world sc) (Some seat.state))) o) is)
           ∙ ap (λ (s : Option Member). see_lines_in trust sc m e s) (state_is (Some seat) at)
       lines_where (Some f) is none = absurd (cc)
 

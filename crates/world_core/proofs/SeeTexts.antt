@@ -13,7 +13,7 @@ use Rattle.world_spec.specs.Report.{entry_lines, entry_reached}
 use Rattle.world_spec.proofs.LineWorlds.{see_same}
 use Rattle.world_spec.specs.Known.{setting_staked, world_with}
 use Rattle.world_spec.specs.Posts.{stated_in}
-use Rattle.world_spec.specs.Scene.{Scene, bare_setting, bare_world, rules_in}
+use Rattle.world_spec.specs.Scene.{Scene, bare_setting, post_world, rules_in}
 use Rattle.world_core.specs.Replies.{Replies, SaysSee}
 use Rattle.world_core.specs.declared.reply.Reply.{Reply}
 use Rattle.world_core.specs.declared.reply.Reply.TheVariants as reply
@@ -32,14 +32,14 @@ see_is said (Err (no_see.Fork key first second)) is e = is
 
 -- the lines for a reply are the definition's, by what became of the call
 pub see_reply : (trust : Trust) (sc : Scene) (stakes : List ℕ) (m number : ℕ) (bytes : List ℕ) (what : Reached) (given : Reply (Result Seen SeeRefusal)) → stakes ≡ sc.terms.stakes → Replies (SaysSee (rules_in trust.accepts sc) number bytes) what given
-    → see_replied sc.known stakes m number given ≡ entry_reached (bare_setting trust sc) (bare_world sc) m number bytes what
-see_reply trust sc stakes m number bytes what reply.Down by is = sym (ap (entry_reached (bare_setting trust sc) (bare_world sc) m number bytes) is)
-see_reply trust sc stakes m number bytes what reply.Stopped by is = sym (ap (entry_reached (bare_setting trust sc) (bare_world sc) m number bytes) is.is)
+    → see_replied sc.known stakes m number given ≡ entry_reached (bare_setting trust sc) (post_world sc) m number bytes what
+see_reply trust sc stakes m number bytes what reply.Down by is = sym (ap (entry_reached (bare_setting trust sc) (post_world sc) m number bytes) is)
+see_reply trust sc stakes m number bytes what reply.Stopped by is = sym (ap (entry_reached (bare_setting trust sc) (post_world sc) m number bytes) is.is)
 see_reply trust sc stakes m number bytes what (reply.Answered given) by is =
     ap (λ (s : List ℕ). entry_lines (setting_staked s sc.known) (world_with sc.known) m number given) by
     ∙ sym (ap (λ (a : Result Seen SeeRefusal). entry_lines (setting_staked sc.terms.stakes sc.known) (world_with sc.known) m number a) (see_is (see_answer (rules_in trust.accepts sc) is.before number bytes) given is.says.answer is.says.ended))
-    ∙ sym (see_same (bare_setting trust sc) (bare_world sc) m number (see_answer (rules_in trust.accepts sc) is.before number bytes))
-    ∙ sym (ap (entry_reached (bare_setting trust sc) (bare_world sc) m number bytes) is.is)
+    ∙ sym (see_same (bare_setting trust sc) (post_world sc) m number (see_answer (rules_in trust.accepts sc) is.before number bytes))
+    ∙ sym (ap (entry_reached (bare_setting trust sc) (post_world sc) m number bytes) is.is)
 
 pub see_states : (r : Rules) (m number : ℕ) (bytes : List ℕ) (what : Reached) (given : Reply (Result Seen SeeRefusal)) → Replies (SaysSee r number bytes) what given → map (said_by m) (see_stated given) ≡ map (said_by m) (stated_in r (sees number bytes) what)
 unfolding stated

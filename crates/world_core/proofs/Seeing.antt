@@ -21,8 +21,9 @@ use Rattle.world_spec.specs.Report.{Lines, and_lines, entry_lines, entry_reached
 use Rattle.world_spec.specs.Seats.{Seated}
 use Rattle.world_spec.specs.Terms.{Terms, rules_for}
 use Rattle.world_spec.specs.Posts.{AddsAll, AddsFront, Post, list_of, post_behind, posts_behind, posts_with, reached_in, reached_post, reached_standing, record_left, seat_behind, stated_in, with_all}
-use Rattle.world_spec.specs.Scene.{Scene, bare_setting, bare_world, rules_in}
-use Rattle.world_spec.specs.SceneSteps.{call_lines_in, called_if, called_scene, entries_lines_in, left_if, next_on, seat_state, sees_left, sees_to, standing_at}
+use Rattle.world_spec.specs.Scene.{Scene, bare_setting, post_world, rules_in}
+use Rattle.world_spec.specs.SceneSteps.{called_if, called_scene, left_if, next_on, seat_state, sees_left, sees_to, standing_at}
+use Rattle.world_core.specs.Steps.{call_lines_in, entries_lines_in}
 use Rattle.world_core.specs.Cuts.{EntriesCut, NextCut, books_in}
 use Rattle.world_core.specs.Sees.{HasSeen}
 
@@ -65,10 +66,10 @@ module _ (r : Rules) (m : ℕ) where
         ap (λ (o : Option Post). reached_post r call o) at
         ∙ ap (λ (s : Option Seated). reached_standing r call p.armed s) up
 
-    next_is : next_on sc m ≡ next_call_of (bare_world sc) seat.state
+    next_is : next_on sc m ≡ next_call_of (post_world sc) seat.state
     next_is =
-        ap (λ (o : Option Post). option_and_then (next_call_of (bare_world sc)) (option_map seat_state (standing_at o))) at
-        ∙ ap (λ (s : Option Seated). option_and_then (next_call_of (bare_world sc)) (option_map seat_state s)) up
+        ap (λ (o : Option Post). option_and_then (next_call_of (post_world sc)) (option_map seat_state (standing_at o))) at
+        ∙ ap (λ (s : Option Seated). option_and_then (next_call_of (post_world sc)) (option_map seat_state s)) up
 
     armed_none : (armed : Option Bool) → reached_up seat.state armed None ≡ answers seat.state None
     armed_none None = refl
@@ -120,9 +121,9 @@ module _ (r : Rules) (m : ℕ) where
         ap (λ (o : Option SeeRefusal). built_statements (refused_or o (see_after r seat.state (after r seat.state (record_as.See bytes)) bytes))) e
 
     refused_rests : (x : SeeRefusal) → first_some (see_cases seat.state seat.state.sequence.number) ≡ Some x → (n : ℕ) → Rests sc n
-    refused_rests x e n = go (next_entry (bare_world sc) seat.state) refl
+    refused_rests x e n = go (next_entry (post_world sc) seat.state) refl
       where
-        go : (o : Option Entry) → next_entry (bare_world sc) seat.state ≡ o → Rests sc n
+        go : (o : Option Entry) → next_entry (post_world sc) seat.state ≡ o → Rests sc n
         go None is = rests_none sc (next_is ∙ ap (λ (o : Option Entry). option_map (numbered_call seat.state.sequence.number) o) is) n
         go (Some en) is =
             let number = seat.state.sequence.number in
@@ -174,7 +175,7 @@ module _ (trust : Trust) (sc : Scene) (m : ℕ) where
     -- it stopped
     stopped : (kept : Bool) (y : Record) → reached_in r sc.posts m call ≡ stops kept y → (n : ℕ) → Rests r m after_call n
     stopped kept y is n =
-        rests_none r m after_call (ap (λ (o : Option Post). option_and_then (next_call_of (bare_world after_call)) (option_map seat_state (standing_at o))) (post_now (stops kept y) is)) n
+        rests_none r m after_call (ap (λ (o : Option Post). option_and_then (next_call_of (post_world after_call)) (option_map seat_state (standing_at o))) (post_now (stops kept y) is)) n
 
     -- it refused the entry
     refused : (z : SeeRefusal) → first_some (see_cases seat.state number) ≡ Some z → (n : ℕ) → Rests r m after_call n
@@ -194,24 +195,24 @@ module _ (trust : Trust) (sc : Scene) (m : ℕ) where
         halted_rests r m after_call now next (post_now (answers seat.state x) is) stands f fork_is n
 
     -- it answered, and nothing goes on
-    answered_not : (x : Option Record) → reached_in r sc.posts m call ≡ answers seat.state x → (entry_lines (bare_setting trust sc) (bare_world sc) m number (see_answer r seat.state number bytes)).1 ≡ false → (n : ℕ) → Rests r m after_call n
+    answered_not : (x : Option Record) → reached_in r sc.posts m call ≡ answers seat.state x → (entry_lines (bare_setting trust sc) (post_world sc) m number (see_answer r seat.state number bytes)).1 ≡ false → (n : ℕ) → Rests r m after_call n
     unfolding see_answer
     answered_not x is not n = by_case (first_some (see_cases seat.state number)) refl not
       where
         by_fork : (f : Option Fork) → fork_of (after r seat.state (record_as.See bytes)) ≡ f → first_some (see_cases seat.state number) ≡ None
-            → (entry_lines (bare_setting trust sc) (bare_world sc) m number (unless_refused (option_map (λ (g : Fork). no_see.Fork g.key g.first g.second) f) (seen_as r seat.state (after r seat.state (record_as.See bytes)) bytes))).1 ≡ false → Rests r m after_call n
+            → (entry_lines (bare_setting trust sc) (post_world sc) m number (unless_refused (option_map (λ (g : Fork). no_see.Fork g.key g.first g.second) f) (seen_as r seat.state (after r seat.state (record_as.See bytes)) bytes))).1 ≡ false → Rests r m after_call n
         by_fork None e free ends = absurd (cc)
         by_fork (Some f) e free ends = forked f free e x is n
 
-        by_case : (z : Option SeeRefusal) → first_some (see_cases seat.state number) ≡ z → (entry_lines (bare_setting trust sc) (bare_world sc) m number (refused_or z (see_after r seat.state (after r seat.state (record_as.See bytes)) bytes))).1 ≡ false → Rests r m after_call n
+        by_case : (z : Option SeeRefusal) → first_some (see_cases seat.state number) ≡ z → (entry_lines (bare_setting trust sc) (post_world sc) m number (refused_or z (see_after r seat.state (after r seat.state (record_as.See bytes)) bytes))).1 ≡ false → Rests r m after_call n
         by_case (Some z) e ends = refused z e n
         by_case None e ends = by_fork (fork_of (after r seat.state (record_as.See bytes))) refl e ends
 
     by_reached : GoesNot (Some call) → (n : ℕ) → Rests r m after_call n
     by_reached not n = go p.armed (due r seat.state call) (reached_is r m sc p seat at up call)
       where
-        lines_are : (x : Reached) → reached_in r sc.posts m call ≡ x → (entry_reached (bare_setting trust sc) (bare_world sc) m number bytes x).1 ≡ false
-        lines_are x is = ap (λ (y : Reached). (entry_reached (bare_setting trust sc) (bare_world sc) m number bytes y).1) (sym is) ∙ not
+        lines_are : (x : Reached) → reached_in r sc.posts m call ≡ x → (entry_reached (bare_setting trust sc) (post_world sc) m number bytes x).1 ≡ false
+        lines_are x is = ap (λ (y : Reached). (entry_reached (bare_setting trust sc) (post_world sc) m number bytes y).1) (sym is) ∙ not
 
         go : (armed : Option Bool) (x : Option Record) → reached_in r sc.posts m call ≡ reached_up seat.state armed x → Rests r m after_call n
         go None x is = answered_not x is (lines_are (answers seat.state x) is) n
@@ -221,7 +222,7 @@ module _ (trust : Trust) (sc : Scene) (m : ℕ) where
   pub ends_there : GoesNot (next_on sc m) → (n : ℕ) → RestsBehind (next_on sc m) n
   ends_there not n = by_post (slice_get sc.posts m) refl
     where
-      by_entry : (p : Post) (seat : Seated) (at : slice_get sc.posts m ≡ Some p) (up : p.standing ≡ Some seat) (en : Option Entry) → next_entry (bare_world sc) seat.state ≡ en → RestsBehind (next_on sc m) n
+      by_entry : (p : Post) (seat : Seated) (at : slice_get sc.posts m ≡ Some p) (up : p.standing ≡ Some seat) (en : Option Entry) → next_entry (post_world sc) seat.state ≡ en → RestsBehind (next_on sc m) n
       by_entry p seat at up None is =
           none_next (next_is r m sc p seat at up ∙ ap (λ (o : Option Entry). option_map (numbered_call seat.state.sequence.number) o) is) n
       by_entry p seat at up (Some en) is =
@@ -230,11 +231,11 @@ module _ (trust : Trust) (sc : Scene) (m : ℕ) where
 
       by_standing : (p : Post) (at : slice_get sc.posts m ≡ Some p) (standing : Option Seated) → p.standing ≡ standing → RestsBehind (next_on sc m) n
       by_standing p at None up =
-          none_next (ap (λ (o : Option Post). option_and_then (next_call_of (bare_world sc)) (option_map seat_state (standing_at o))) at ∙ ap (λ (s : Option Seated). option_and_then (next_call_of (bare_world sc)) (option_map seat_state s)) up) n
-      by_standing p at (Some seat) up = by_entry p seat at up (next_entry (bare_world sc) seat.state) refl
+          none_next (ap (λ (o : Option Post). option_and_then (next_call_of (post_world sc)) (option_map seat_state (standing_at o))) at ∙ ap (λ (s : Option Seated). option_and_then (next_call_of (post_world sc)) (option_map seat_state s)) up) n
+      by_standing p at (Some seat) up = by_entry p seat at up (next_entry (post_world sc) seat.state) refl
 
       by_post : (post : Option Post) → slice_get sc.posts m ≡ post → RestsBehind (next_on sc m) n
-      by_post None at = none_next (ap (λ (o : Option Post). option_and_then (next_call_of (bare_world sc)) (option_map seat_state (standing_at o))) at) n
+      by_post None at = none_next (ap (λ (o : Option Post). option_and_then (next_call_of (post_world sc)) (option_map seat_state (standing_at o))) at) n
       by_post (Some p) at = by_standing p at p.standing refl
 
 -- ---- observable lists grow in steps

@@ -19,7 +19,8 @@ use Rattle.world_spec.specs.Moves.{held_call, signed_call}
 use Rattle.world_spec.specs.Posts.{Post, list_of, posts_behind, reached_in, record_left, stated_in}
 use Rattle.world_spec.specs.Terms.{Terms}
 use Rattle.world_spec.specs.Scene.{Scene, rules_in}
-use Rattle.world_spec.specs.SceneSteps.{MayAddLine, Work, asked, asked_scene, asks, hands, idle, lines_in, records_left, sees_left, steps_to, work_of, worked}
+use Rattle.world_spec.specs.SceneSteps.{MayAddLine, Work, asked, asks, hands, idle, records_left, sees_left, work_of}
+use Rattle.world_core.specs.Steps.{asked_scene, lines_after, scene_after, worked}
 use Rattle.world_core.specs.declared.reply.Reply.{Reply}
 use Rattle.world_core.specs.declared.reply.SeatFault.{SeatFault}
 use Rattle.world_core.specs.declared.reply.SeatFault.TheVariants as seat_fault
@@ -111,8 +112,8 @@ line_unmade trust sc e told x = record {
 }
 
 -- it has none to make
-pub line_idle : {E : Type 0} (trust : Trust) (sc : Scene) (e : Event) (told : Option Journals) (these : List Line) (result : Result (List Line) E) → work_of sc e ≡ idle → steps_to trust sc e ≡ worked trust.seal (rules_in trust.accepts sc) sc (work_of sc e)
-    → these ≡ lines_in trust sc e → IfOk result (λ lines. lines ≡ these) → LineAfter trust sc e sc told told result
+pub line_idle : {E : Type 0} (trust : Trust) (sc : Scene) (e : Event) (told : Option Journals) (these : List Line) (result : Result (List Line) E) → work_of sc e ≡ idle → scene_after trust sc e ≡ worked trust.seal (rules_in trust.accepts sc) sc (work_of sc e)
+    → these ≡ lines_after trust sc e → IfOk result (λ lines. lines ≡ these) → LineAfter trust sc e sc told told result
 line_idle {E} trust sc e told these (Ok lines) work steps are is = record {
   world = sym (steps ∙ ap (worked trust.seal (rules_in trust.accepts sc) sc) work);
   lines = is ∙ are;
@@ -126,7 +127,7 @@ line_idle trust sc e told these (Err x) work steps are is = line_unmade trust sc
 
 -- ---- a line that makes a call
 
-module _ (trust : Trust) (v sc : Scene) (view : v ≡ sc) (e : Event) (m : ℕ) (call : Call) (work : work_of sc e ≡ asks m call) (steps : steps_to trust v e ≡ worked trust.seal (rules_in trust.accepts v) v (work_of v e)) (loud : is_quiet e ≡ false) (before now : Option Journals) where
+module _ (trust : Trust) (v sc : Scene) (view : v ≡ sc) (e : Event) (m : ℕ) (call : Call) (work : work_of sc e ≡ asks m call) (steps : scene_after trust v e ≡ worked trust.seal (rules_in trust.accepts v) v (work_of v e)) (loud : is_quiet e ≡ false) (before now : Option Journals) where
   abbrev rules_v : Rules
   rules_v = rules_in trust.accepts v
 
@@ -145,7 +146,7 @@ module _ (trust : Trust) (v sc : Scene) (view : v ≡ sc) (e : Event) (m : ℕ) 
   work_v : work_of v e ≡ asks m call
   work_v = subst (λ (x : Scene). work_of x e ≡ asks m call) (sym view) work
 
-  step_is : steps_to trust v e ≡ record v { posts = posts_behind rules_v v.posts m call; said = v.said ++ more }
+  step_is : scene_after trust v e ≡ record v { posts = posts_behind rules_v v.posts m call; said = v.said ++ more }
   step_is = steps ∙ ap (worked trust.seal rules_v v) work_v ∙ asked_is trust.seal rules_v v m call
 
   books_are : (seats : Crew) (said : List Said) → seats.terms ≡ v.terms → length seats.posts ≡ length v.posts → SeenCut books_in trust v (orders_end e) (after seats said)
@@ -169,7 +170,7 @@ module _ (trust : Trust) (v sc : Scene) (view : v ≡ sc) (e : Event) (m : ℕ) 
   -- the call was completed, and then the line was, or its end is missing
   pub line_done : {A E : Type 0} {Says : Member → A → Type 0} (seats : Crew) (reply : Reply A) (said : List Said) (these : List Line) (result : Result (List Line) E)
       → Served Says rules_v call m crew seats before now (let y : Result (Reply A) SeatFault = Ok reply in y)
-      → OnOk result (said ≡ v.said ++ more) → OnErr result (GrowsToward v.said said (v.said ++ more)) → these ≡ lines_in trust v e → IfOk result (λ lines. lines ≡ these) → LineAfter trust sc e (after seats said) before now result
+      → OnOk result (said ≡ v.said ++ more) → OnErr result (GrowsToward v.said said (v.said ++ more)) → these ≡ lines_after trust v e → IfOk result (λ lines. lines ≡ these) → LineAfter trust sc e (after seats said) before now result
   line_done {A} {E} seats reply said these (Ok lines) is all grew are ls =
       subst (λ (s : Scene). LineAfter trust s e (after seats said) before now (let y : Result (List Line) E = Ok lines in y)) view
       (record {
@@ -196,14 +197,14 @@ module _ (trust : Trust) (v sc : Scene) (view : v ≡ sc) (e : Event) (m : ℕ) 
         cut = subst (λ (w : Work). LineCut rules_v v w seats.posts before now) (sym work_v) (call_ended rules_v m call v.posts seats.posts before now is.posts is.kept);
         books = books_are seats said is.terms is.many;
         quiet = loud_posts v (after seats said) e loud;
-        said = grew_as v.said said (v.said ++ more) (steps_to trust v e).said (sym (ap (λ (s : Scene). s.said) step_is)) grew;
+        said = grew_as v.said said (v.said ++ more) (scene_after trust v e).said (sym (ap (λ (s : Scene). s.said) step_is)) grew;
       })
 
   pub line_told : {A E : Type 0} {Says : Member → A → Type 0} (seats : Crew) (reply : Reply A) (said : List Said) (these : List Line) (result : Result (List Line) E)
-      → Served Says rules_v call m crew seats before now (let y : Result (Reply A) SeatFault = Ok reply in y) → said ≡ v.said ++ more → these ≡ lines_in trust v e → IfOk result (λ lines. lines ≡ these) → LineAfter trust sc e (after seats said) before now result
+      → Served Says rules_v call m crew seats before now (let y : Result (Reply A) SeatFault = Ok reply in y) → said ≡ v.said ++ more → these ≡ lines_after trust v e → IfOk result (λ lines. lines ≡ these) → LineAfter trust sc e (after seats said) before now result
   line_told seats reply said these (Ok lines) is all are ls = line_done seats reply said these (Ok lines) is all tt are ls
   line_told seats reply said these (Err x) is all are ls = line_done seats reply said these (Err x) is tt (all_added v.said said more all) are ls
 
   pub line_untold : {A E : Type 0} {Says : Member → A → Type 0} (seats : Crew) (reply : Reply A) (said : List Said) (x : E)
       → Served Says rules_v call m crew seats before now (let y : Result (Reply A) SeatFault = Ok reply in y) → said ≡ v.said → LineAfter trust sc e (after seats said) before now (let y : Result (List Line) E = Err x in y)
-  line_untold {A} {E} seats reply said x is same = line_done seats reply said (lines_in trust v e) (let y : Result (List Line) E = Err x in y) is tt (none_added v.said said more same) refl tt
+  line_untold {A} {E} seats reply said x is same = line_done seats reply said (lines_after trust v e) (let y : Result (List Line) E = Err x in y) is tt (none_added v.said said more same) refl tt

@@ -19,8 +19,9 @@ use Rattle.world_spec.specs.Report.{ack_reached, end_reached}
 use Rattle.world_spec.proofs.LineWorlds.{ack_same, end_same}
 use Rattle.world_spec.specs.Seats.{Seated}
 use Rattle.world_spec.specs.Posts.{AddsLeft, Post, post_behind, posts_behind, posts_with, reached_in, reached_post, reached_standing, record_left, seat_behind, stated_in}
-use Rattle.world_spec.specs.Scene.{Scene, bare_setting, bare_world, rules_in}
-use Rattle.world_spec.specs.SceneSteps.{asks, called_scene, comes_to, seat_state, standing_at, state_at}
+use Rattle.world_spec.specs.Scene.{Scene, bare_setting, post_world, rules_in}
+use Rattle.world_spec.specs.SceneSteps.{asks, called_scene, seat_state, standing_at, state_at}
+use Rattle.world_core.specs.Steps.{comes_to}
 use Rattle.world_core.specs.Epochs.{ack_statements, ack_text_by, end_statements, end_text_by}
 use Rattle.world_core.specs.Kept.{LeavesAs}
 use Rattle.world_core.proofs.Lines.{left_on}
@@ -112,12 +113,12 @@ module _ (trust : Trust) (sc : Scene) (m : ℕ) where
       ap (saying sc) (told ∙ ap (λ (xs : List Statement). sc.said ++ map (said_by m) xs) (sym (end_stated r (state_at sc m))))
       ∙ sym (silent_scene r ends (ends_silent r) sc m)
 
-  end_text_as : (state : Option Member) → end_text_by sc.known r state ≡ end_reached (bare_setting trust sc) (bare_world sc) (reached_of state)
+  end_text_as : (state : Option Member) → end_text_by sc.known r state ≡ end_reached (bare_setting trust sc) (post_world sc) (reached_of state)
   end_text_as None = refl
-  end_text_as (Some state) = sym (end_same (bare_setting trust sc) (bare_world sc) (end_answer r state))
+  end_text_as (Some state) = sym (end_same (bare_setting trust sc) (post_world sc) (end_answer r state))
 
-  pub end_text_is : end_text_by sc.known r (state_at sc m) ≡ end_reached (bare_setting trust sc) (bare_world sc) (comes_to trust sc m ends)
-  end_text_is = end_text_as (state_at sc m) ∙ sym (ap (λ (x : Reached). end_reached (bare_setting trust sc) (bare_world sc) x) (reached_as r ends (ends_silent r) sc.posts m))
+  pub end_text_is : end_text_by sc.known r (state_at sc m) ≡ end_reached (bare_setting trust sc) (post_world sc) (comes_to trust sc m ends)
+  end_text_is = end_text_as (state_at sc m) ∙ sym (ap (λ (x : Reached). end_reached (bare_setting trust sc) (post_world sc) x) (reached_as r ends (ends_silent r) sc.posts m))
 
   pub end_leaves : {A E : Type 0} (told : Option Journals) (result : Result A E) → LeavesAs r sc (asks m ends) told told result
   end_leaves told result = left_on r sc m ends told told result (subst (λ (x : Option Record). AddsLeft told told m x) (sym (none_left r ends (ends_silent r) sc.posts m)) (keeps_same told))
@@ -129,12 +130,12 @@ module _ (trust : Trust) (sc : Scene) (m : ℕ) where
         ap (saying sc) (told ∙ ap (λ (xs : List Statement). sc.said ++ map (said_by m) xs) (sym (ack_stated r tx (state_at sc m))))
         ∙ sym (silent_scene r (acks tx) (acks_silent r tx) sc m)
 
-    ack_text_as : (state : Option Member) → ack_text_by sc.known r tx state ≡ ack_reached (bare_setting trust sc) (bare_world sc) tx (reached_of state)
+    ack_text_as : (state : Option Member) → ack_text_by sc.known r tx state ≡ ack_reached (bare_setting trust sc) (post_world sc) tx (reached_of state)
     ack_text_as None = refl
-    ack_text_as (Some state) = sym (ack_same (bare_setting trust sc) (bare_world sc) (ack_answer r state tx))
+    ack_text_as (Some state) = sym (ack_same (bare_setting trust sc) (post_world sc) (ack_answer r state tx))
 
-    pub ack_text_is : ack_text_by sc.known r tx (state_at sc m) ≡ ack_reached (bare_setting trust sc) (bare_world sc) tx (comes_to trust sc m (acks tx))
-    ack_text_is = ack_text_as (state_at sc m) ∙ sym (ap (λ (x : Reached). ack_reached (bare_setting trust sc) (bare_world sc) tx x) (reached_as r (acks tx) (acks_silent r tx) sc.posts m))
+    pub ack_text_is : ack_text_by sc.known r tx (state_at sc m) ≡ ack_reached (bare_setting trust sc) (post_world sc) tx (comes_to trust sc m (acks tx))
+    ack_text_is = ack_text_as (state_at sc m) ∙ sym (ap (λ (x : Reached). ack_reached (bare_setting trust sc) (post_world sc) tx x) (reached_as r (acks tx) (acks_silent r tx) sc.posts m))
 
     pub ack_leaves : {A E : Type 0} (told : Option Journals) (result : Result A E) → LeavesAs r sc (asks m (acks tx)) told told result
     ack_leaves told result = left_on r sc m (acks tx) told told result (subst (λ (x : Option Record). AddsLeft told told m x) (sym (none_left r (acks tx) (acks_silent r tx) sc.posts m)) (keeps_same told))
@@ -149,7 +150,7 @@ module _ {E : Type 0} (trust : Trust) (v sc : Scene) (m : ℕ) (result : Result 
 
   -- its line
   abbrev IsEnd : Scene → List Line → Type 0
-  IsEnd x lines = lines ≡ line.End m (end_reached (bare_setting trust x) (bare_world x) (comes_to trust x m ends)) ∷ []
+  IsEnd x lines = lines ≡ line.End m (end_reached (bare_setting trust x) (post_world x) (comes_to trust x m ends)) ∷ []
 
   pub end_lines_told : (text : EndText) → text ≡ end_text_by v.known (rules_in trust.accepts v) (state_at v m) → IfOk result (λ lines. lines ≡ line.End m text ∷ []) → IfOk result (IsEnd sc)
   end_lines_told text said told =

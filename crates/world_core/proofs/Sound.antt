@@ -21,7 +21,7 @@ use Rattle.world_spec.specs.MadeLines.{line_made}
 use Rattle.world_spec.specs.Scene.{Scene}
 use Rattle.world_spec.specs.SceneWorlds.{AreKeepable}
 use Rattle.world_lines.specs.Orders.{Orders, no_orders}
-use Rattle.world_spec.specs.SceneSteps.{held_in, with_tx}
+use Rattle.world_core.specs.Steps.{held_in, with_tx}
 use Rattle.world_core.specs.Sound.{IsSound, IsSpelled, IsSpelledCert}
 use Rattle.world_lines.proofs.Opened.{opening_apart}
 

@@ -15,14 +15,15 @@ use Rattle.report_text.specs.declared.lines.Line.{Line}
 use Rattle.schedule_text.specs.declared.words.Event.{Event}
 use Rattle.schedule_text.specs.declared.words.Event.TheVariants as event
 use Rattle.world_spec.specs.Setting.{Name, Setting, Trust}
-use Rattle.world_spec.specs.World.{Made, Said, World, honest_in, is_honest, said_by, sealed_by, seat_honest}
+use Rattle.world_spec.specs.World.{Made, Said, WorldOf, honest_in, said_by, sealed_by}
 use Rattle.world_spec.specs.Names.{cert_named, made_named}
 use Rattle.world_spec.specs.Moves.{Move, requests, delivers, claims, submits, submits_end, claims_vote, claims_ack, cert_submitted, move_of}
-use Rattle.world_spec.specs.Step.{appended_entry, end_in, end_ordered, fvote_origins, fvoted, has_ended, honest_end, last_said, ordered, ordered_end, risen_if, says, sealed_end}
+use Rattle.world_spec.specs.Step.{appended_entry, end_by, end_in, fvoted_by, has_ended, honest_end, last_said, ordered, ordered_end, origins_by, risen_if, says, sealed_end}
 use Rattle.world_spec.specs.Terms.{Terms, rules_for}
-use Rattle.world_spec.specs.Posts.{reached_in, stated_in}
-use Rattle.world_spec.specs.Scene.{Scene, bare_setting, bare_world, rules_in}
-use Rattle.world_spec.specs.SceneSteps.{Work, acked_in, asks, called_if, called_scene, false_ack_in, hands, idle, next_on, sees_to, steps_by, steps_to, voted_scene, with_order, work_by, worked}
+use Rattle.world_spec.specs.Posts.{Post, post_honest, reached_in, stated_in}
+use Rattle.world_spec.specs.Scene.{Scene, bare_setting, post_world, rules_in}
+use Rattle.world_spec.specs.SceneSteps.{Work, asks, called_if, called_scene, hands, idle, next_on, sees_to, work_by}
+use Rattle.world_core.specs.Steps.{acked_in, false_ack_in, steps_by, scene_after, voted_scene, with_order, worked}
 use Rattle.world_lines.specs.Pushed.{GrowsToward}
 use Rattle.world_lines.proofs.Growing.{all_added}
 use Rattle.world_core.specs.Sees.{HasSeen}
@@ -66,15 +67,15 @@ work_front seal r sc (hands m n) = sees_front r n sc m
 
 -- ---- what lines add that make no call
 
-false_vote_front : (s : Setting) (w : World) (m : ℕ) (words : List (Option Name)) (t : Option Made) → IsFront w.said (fvoted s w m words t).said
+false_vote_front : (s : Setting) (w : WorldOf Post) (m : ℕ) (words : List (Option Name)) (t : Option Made) → IsFront w.said (fvoted_by post_honest s w m words t).said
 false_vote_front s w m words None = front_whole w.said
-false_vote_front s w m words (Some t) = go (honest_in seat_honest w m)
+false_vote_front s w m words (Some t) = go (honest_in post_honest w m)
   where
-    go : (b : Bool) → IsFront w.said (cond b w (says s.seal w m (statement.Vote t.signed.tx.epoch t.digest (fvote_origins w t words)))).said
+    go : (b : Bool) → IsFront w.said (cond b w (says s.seal w m (statement.Vote t.signed.tx.epoch t.digest (origins_by post_honest w t words)))).said
     go true = front_whole w.said
-    go false = (sealed_by s.seal m (statement.Vote t.signed.tx.epoch t.digest (fvote_origins w t words)) ∷ [], refl)
+    go false = (sealed_by s.seal m (statement.Vote t.signed.tx.epoch t.digest (origins_by post_honest w t words)) ∷ [], refl)
 
-order_front : (w : World) (c : Option Certificate) → IsFront w.said (ordered w c).said
+order_front : (w : WorldOf Post) (c : Option Certificate) → IsFront w.said (ordered w c).said
 order_front w None = front_whole w.said
 order_front w (Some c) = go (c.tx.epoch == w.epoch)
   where
@@ -82,15 +83,15 @@ order_front w (Some c) = go (c.tx.epoch == w.epoch)
     go true = front_whole w.said
     go false = front_whole w.said
 
-rise_said : (b : Bool) (w : World) → (risen_if b w).said ≡ w.said
+rise_said : (b : Bool) (w : WorldOf Post) → (risen_if b w).said ≡ w.said
 rise_said true w = refl
 rise_said false w = refl
 
-pub end_said : (s : Setting) (w : World) (m epoch : ℕ) → (ordered_end s w m epoch).said ≡ w.said
+pub end_said : (s : Setting) (w : WorldOf Post) (m epoch : ℕ) → (ordered_end s w m epoch).said ≡ w.said
 end_said s w m epoch = rise_said (has_ended s (appended_entry w (sealed_end s m epoch))) (appended_entry w (sealed_end s m epoch))
 
-end_front : (s : Setting) (w : World) (m : ℕ) → IsFront w.said (end_ordered s w m).said
-end_front s w m = go (honest_in seat_honest w m)
+end_front : (s : Setting) (w : WorldOf Post) (m : ℕ) → IsFront w.said (end_by post_honest s w m).said
+end_front s w m = go (honest_in post_honest w m)
   where
     own : (epoch : ℕ) (b : Bool) → IsFront w.said (cond b (ordered_end s w m epoch) w).said
     own epoch true = same_front w.said (ordered_end s w m epoch).said (end_said s w m epoch)
@@ -106,7 +107,7 @@ end_front s w m = go (honest_in seat_honest w m)
 
 ack_front : (r : Rules) (sc : Scene) (m : ℕ) (spoiled : Bool) (t : Option Made) → IsFront sc.said (acked_in r sc m spoiled t).said
 ack_front r sc m spoiled None = front_whole sc.said
-ack_front r sc m spoiled (Some t) = go (is_honest (bare_world sc) m)
+ack_front r sc m spoiled (Some t) = go (honest_in post_honest (post_world sc) m)
   where
     go : (b : Bool) → IsFront sc.said (cond b (called_scene r sc m (acks t.digest)) (record sc { said = sc.said ++ said_by m (false_ack_in sc t spoiled) ∷ [] })).said
     go true = call_front r sc m (acks t.digest)
@@ -117,36 +118,36 @@ ack_front r sc m spoiled (Some t) = go (is_honest (bare_world sc) m)
 move_front : (trust : Trust) (sc : Scene) (mv : Move) → IsFront sc.said (steps_by trust sc mv).said
 move_front trust sc (requests m ask) = work_front trust.seal (rules_in trust.accepts sc) sc (work_by sc (requests m ask))
 move_front trust sc (delivers m entries) = work_front trust.seal (rules_in trust.accepts sc) sc (work_by sc (delivers m entries))
-move_front trust sc (claims m tx (claims_vote origins)) = false_vote_front (bare_setting trust sc) (bare_world sc) m origins (made_named (bare_world sc) tx)
-move_front trust sc (claims m tx (claims_ack spoiled)) = ack_front (rules_in trust.accepts sc) sc m spoiled (made_named (bare_world sc) tx)
-move_front trust sc (submits (cert_submitted tx)) = order_front (bare_world sc) (cert_named (bare_world sc) tx)
-move_front trust sc (submits_end m) = end_front (bare_setting trust sc) (bare_world sc) m
+move_front trust sc (claims m tx (claims_vote origins)) = false_vote_front (bare_setting trust sc) (post_world sc) m origins (made_named (post_world sc) tx)
+move_front trust sc (claims m tx (claims_ack spoiled)) = ack_front (rules_in trust.accepts sc) sc m spoiled (made_named (post_world sc) tx)
+move_front trust sc (submits (cert_submitted tx)) = order_front (post_world sc) (cert_named (post_world sc) tx)
+move_front trust sc (submits_end m) = end_front (bare_setting trust sc) (post_world sc) m
 move_front trust sc mv = front_whole sc.said
 
-pub step_front : (trust : Trust) (sc : Scene) (e : Event) → IsFront sc.said (steps_to trust sc e).said
-unfolding steps_to
+pub step_front : (trust : Trust) (sc : Scene) (e : Event) → IsFront sc.said (scene_after trust sc e).said
+unfolding scene_after
 step_front trust sc e = move_front trust sc (move_of e)
 
 module _ (trust : Trust) (sc : Scene) (e : Event) (said : List Said) where
   -- it added nothing
-  pub unsaid : said ≡ sc.said → GrowsToward sc.said said (steps_to trust sc e).said
-  unsaid same = none_grew sc.said said (steps_to trust sc e).said (step_front trust sc e) same
+  pub unsaid : said ≡ sc.said → GrowsToward sc.said said (scene_after trust sc e).said
+  unsaid same = none_grew sc.said said (scene_after trust sc e).said (step_front trust sc e) same
 
-  pub unsaid_on : {A E : Type 0} (result : Result A E) → said ≡ sc.said → OnErr result (GrowsToward sc.said said (steps_to trust sc e).said)
-  unsaid_on result same = on_err (GrowsToward sc.said said (steps_to trust sc e).said) result (unsaid same)
+  pub unsaid_on : {A E : Type 0} (result : Result A E) → said ≡ sc.said → OnErr result (GrowsToward sc.said said (scene_after trust sc e).said)
+  unsaid_on result same = on_err (GrowsToward sc.said said (scene_after trust sc e).said) result (unsaid same)
 
   -- if something broke off, it added nothing
-  pub unsaid_then : {A E : Type 0} (result : Result A E) → OnErr result (said ≡ sc.said) → OnErr result (GrowsToward sc.said said (steps_to trust sc e).said)
+  pub unsaid_then : {A E : Type 0} (result : Result A E) → OnErr result (said ≡ sc.said) → OnErr result (GrowsToward sc.said said (scene_after trust sc e).said)
   unsaid_then (Ok a) same = tt
   unsaid_then (Err x) same = unsaid same
 
   -- it added all
-  pub all_said_on : {A E : Type 0} (result : Result A E) → said ≡ (steps_to trust sc e).said → OnErr result (GrowsToward sc.said said (steps_to trust sc e).said)
+  pub all_said_on : {A E : Type 0} (result : Result A E) → said ≡ (scene_after trust sc e).said → OnErr result (GrowsToward sc.said said (scene_after trust sc e).said)
   all_said_on result is =
-      on_err (GrowsToward sc.said said (steps_to trust sc e).said) result (all_grew sc.said said (steps_to trust sc e).said (step_front trust sc e) is)
+      on_err (GrowsToward sc.said said (scene_after trust sc e).said) result (all_grew sc.said said (scene_after trust sc e).said (step_front trust sc e) is)
 
 -- a restart that failed
-pub unsaid_start : {A E : Type 0} (trust : Trust) (sc new : Scene) (e : Event) (result : Result A E) → OnErr result (new ≡ sc) → OnErr result (GrowsToward sc.said new.said (steps_to trust sc e).said)
+pub unsaid_start : {A E : Type 0} (trust : Trust) (sc new : Scene) (e : Event) (result : Result A E) → OnErr result (new ≡ sc) → OnErr result (GrowsToward sc.said new.said (scene_after trust sc e).said)
 unsaid_start trust sc new e (Ok a) same = tt
 unsaid_start trust sc new e (Err x) same = unsaid trust sc e new.said (ap (λ (y : Scene). y.said) same)
 
@@ -161,8 +162,8 @@ module _ {A E : Type 0} (v sc : Scene) (said : List Said) (result : Result A E) 
       (subst (λ (x : Scene). OnErr result (GrowsToward x.said said (called_scene (rules_in trust.accepts x) x m (sees number bytes)).said)) view grew)
 
   -- all of it
-  pub all_said_seen : (trust : Trust) (e : Event) → said ≡ (steps_to trust v e).said → OnErr result (GrowsToward sc.said said (steps_to trust sc e).said)
-  all_said_seen trust e is = subst (λ (x : Scene). OnErr result (GrowsToward x.said said (steps_to trust x e).said)) view (all_said_on trust v e said result is)
+  pub all_said_seen : (trust : Trust) (e : Event) → said ≡ (scene_after trust v e).said → OnErr result (GrowsToward sc.said said (scene_after trust sc e).said)
+  all_said_seen trust e is = subst (λ (x : Scene). OnErr result (GrowsToward x.said said (scene_after trust x e).said)) view (all_said_on trust v e said result is)
 
 -- what else a list was to get, by another name
 pub some_said : {A : Type 0} (old new more other : List A) → other ≡ more → GrowsToward old new (old ++ more) → GrowsToward old new (old ++ other)
@@ -195,10 +196,10 @@ seen_grown trust m n old now before told lines so_far (suc still) said some has 
 -- ---- a line that orders the End of a faulty member
 
 pub false_end_grown : {A E : Type 0} (trust : Trust) (sc : Scene) (m : ℕ) (said : List Said) (result : Result A E)
-    → with_order sc (ordered_end (bare_setting trust sc) (says trust.seal (bare_world sc) m (statement.End sc.epoch)) m sc.epoch) ≡ with_order sc (end_ordered (bare_setting trust sc) (bare_world sc) m)
-    → OnErr result (GrowsToward sc.said said (sc.said ++ said_by m (statement.End sc.epoch) ∷ [])) → OnErr result (GrowsToward sc.said said (steps_to trust sc (event.OrderEnd m)).said)
-unfolding steps_to
+    → with_order sc (ordered_end (bare_setting trust sc) (says trust.seal (post_world sc) m (statement.End sc.epoch)) m sc.epoch) ≡ with_order sc (end_by post_honest (bare_setting trust sc) (post_world sc) m)
+    → OnErr result (GrowsToward sc.said said (sc.said ++ said_by m (statement.End sc.epoch) ∷ [])) → OnErr result (GrowsToward sc.said said (scene_after trust sc (event.OrderEnd m)).said)
+unfolding scene_after
 false_end_grown trust sc m said (Ok a) same grew = tt
 false_end_grown trust sc m said (Err x) same grew =
-    grew_as sc.said said (sc.said ++ said_by m (statement.End sc.epoch) ∷ []) (with_order sc (end_ordered (bare_setting trust sc) (bare_world sc) m)).said
-    (sym (end_said (bare_setting trust sc) (says trust.seal (bare_world sc) m (statement.End sc.epoch)) m sc.epoch) ∙ ap (λ (y : Scene). y.said) same) grew
+    grew_as sc.said said (sc.said ++ said_by m (statement.End sc.epoch) ∷ []) (with_order sc (end_by post_honest (bare_setting trust sc) (post_world sc) m)).said
+    (sym (end_said (bare_setting trust sc) (says trust.seal (post_world sc) m (statement.End sc.epoch)) m sc.epoch) ∙ ap (λ (y : Scene). y.said) same) grew

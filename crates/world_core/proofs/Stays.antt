@@ -10,12 +10,13 @@ use Rattle.protocol_spec.specs.Member.Calls.{Call, acks, votes}
 use Rattle.schedule_text.specs.declared.words.Event.{Event}
 use Rattle.report_text.specs.declared.lines.Line.{Line}
 use Rattle.world_spec.specs.Setting.{Trust}
-use Rattle.world_spec.specs.World.{Made, is_honest, said_by}
+use Rattle.world_spec.specs.World.{Made, honest_in, said_by}
 use Rattle.world_spec.specs.Names.{made_named}
 use Rattle.world_spec.specs.Moves.{Move, requests, delivers, claims, arms_stop, claims_ack, move_of}
-use Rattle.world_spec.specs.Posts.{Post, arming, changed_at, posts_with, starting}
-use Rattle.world_spec.specs.Scene.{Scene, bare_world, rules_in}
-use Rattle.world_spec.specs.SceneSteps.{Work, acked_in, asks, called_if, called_scene, false_ack_in, hands, idle, next_on, sees_to, steps_by, steps_to, voted_scene, work_by, worked}
+use Rattle.world_spec.specs.Posts.{Post, arming, changed_at, post_honest, posts_with, starting}
+use Rattle.world_spec.specs.Scene.{Scene, post_world, rules_in}
+use Rattle.world_spec.specs.SceneSteps.{Work, asks, called_if, called_scene, hands, idle, next_on, sees_to, work_by}
+use Rattle.world_core.specs.Steps.{acked_in, false_ack_in, steps_by, scene_after, voted_scene, worked}
 use Rattle.world_core.specs.Restarts.{Accepting, RestartsAs}
 use Rattle.world_core.specs.Stays.{Stays}
 use Rattle.world_core.specs.declared.world.WorldFault.{WorldFault}
@@ -53,7 +54,7 @@ any_work seal r sc (hands m n) = sees_stays r n sc m
 
 ack_stays : (r : Rules) (sc : Scene) (m : ℕ) (spoiled : Bool) (t : Option Made) → Stays sc (acked_in r sc m spoiled t)
 ack_stays r sc m spoiled None = record { many = refl; terms = refl }
-ack_stays r sc m spoiled (Some t) = go (is_honest (bare_world sc) m)
+ack_stays r sc m spoiled (Some t) = go (honest_in post_honest (post_world sc) m)
   where
     go : (b : Bool) → Stays sc (cond b (called_scene r sc m (acks t.digest)) (record sc { said = sc.said ++ said_by m (false_ack_in sc t spoiled) ∷ [] }))
     go true = one_call r sc m (acks t.digest)
@@ -62,12 +63,12 @@ ack_stays r sc m spoiled (Some t) = go (is_honest (bare_world sc) m)
 stays_by : (trust : Trust) (sc : Scene) (mv : Move) → Stays sc (steps_by trust sc mv)
 stays_by trust sc (requests m ask) = any_work trust.seal (rules_in trust.accepts sc) sc (work_by sc (requests m ask))
 stays_by trust sc (delivers m entries) = any_work trust.seal (rules_in trust.accepts sc) sc (work_by sc (delivers m entries))
-stays_by trust sc (claims m tx (claims_ack spoiled)) = ack_stays (rules_in trust.accepts sc) sc m spoiled (made_named (bare_world sc) tx)
+stays_by trust sc (claims m tx (claims_ack spoiled)) = ack_stays (rules_in trust.accepts sc) sc m spoiled (made_named (post_world sc) tx)
 stays_by trust sc (arms_stop m kept) = record { many = changed_many sc.posts m (arming kept) (slice_get sc.posts m); terms = refl }
 stays_by trust sc mv = record { many = refl; terms = refl }
 
-stays : (trust : Trust) (sc : Scene) (e : Event) → Stays sc (steps_to trust sc e)
-unfolding steps_to
+stays : (trust : Trust) (sc : Scene) (e : Event) → Stays sc (scene_after trust sc e)
+unfolding scene_after
 stays trust sc e = stays_by trust sc (move_of e)
 
 pub restart_stays : (accepts : Accepting) (told : Option Journals) (m : ℕ) (old new : Scene) (p : Option Post) (result : Result (List Line) WorldFault) → RestartsAs accepts told m old new p result → OnOk result (Stays old new)
@@ -79,5 +80,5 @@ restart_stays accepts told m old new (Some p) (Ok lines) is =
 restart_stays accepts told m old new None (Ok lines) is = record { many = ap (λ (x : Scene). length x.posts) is.scene; terms = ap (λ (x : Scene). x.terms) is.scene }
 restart_stays accepts told m old new p (Err e) is = tt
 
-pub step_stays : (trust : Trust) (old new : Scene) (e : Event) → new ≡ steps_to trust old e → Stays old new
+pub step_stays : (trust : Trust) (old new : Scene) (e : Event) → new ≡ scene_after trust old e → Stays old new
 step_stays trust old new e is = subst (Stays old) (sym is) (stays trust old e)

@@ -30,8 +30,8 @@ use Rattle.validator_core.specs.Calls.{Holds, Votes, hold_ended, vote_ended}
 use Rattle.world_spec.specs.Seats.{Seated}
 use Rattle.validator_core.specs.Seats.{answered}
 use Rattle.world_spec.specs.Posts.{reached_in, stated_in}
-use Rattle.world_spec.specs.Scene.{Scene, bare_setting, bare_world, rules_in}
-use Rattle.world_spec.specs.SceneSteps.{hold_text_in, show_in, vote_text_in}
+use Rattle.world_spec.specs.Scene.{Scene, bare_setting, post_world, rules_in}
+use Rattle.world_core.specs.Steps.{hold_text_in, show_in, vote_text_in}
 use Rattle.world_core.specs.Crews.{shown_of}
 use Rattle.world_core.specs.Replies.{Replies, SaysHold, SaysRun, SaysVote}
 use Rattle.world_core.specs.declared.reply.Reply.{Reply}
@@ -53,7 +53,7 @@ shown_none k m (Some seat) lines e is = absurd (cc)
 
 pub show_is : (trust : Trust) (sc : Scene) (m : ℕ) (seat : Option Seated) → show_by sc.known m seat ≡ show_in trust sc m seat
 show_is trust sc m None = refl
-show_is trust sc m (Some seat) = sym (shown_same (bare_setting trust sc) (bare_world sc) m seat.state.epoch (live_objects seat.state))
+show_is trust sc m (Some seat) = sym (shown_same (bare_setting trust sc) (post_world sc) m seat.state.epoch (live_objects seat.state))
 
 -- ---- votes
 
@@ -83,13 +83,13 @@ pub vote_reply : (trust : Trust) (sc : Scene) (m : ℕ) (bytes : List ℕ) (give
     → vote_replied sc.known given ≡ vote_text_in trust sc m bytes
 vote_reply trust sc m bytes given is = go (reached_in (rules_in trust.accepts sc) sc.posts m (votes bytes)) given is
   where
-    go : (what : Reached) (given : Reply (Result Sent VoteRefusal)) → Replies (SaysVote (rules_in trust.accepts sc) trust.accepts m bytes) what given → vote_replied sc.known given ≡ vote_reached (bare_setting trust sc) (bare_world sc) bytes what
-    go what reply.Down is = sym (ap (vote_reached (bare_setting trust sc) (bare_world sc) bytes) is)
-    go what reply.Stopped is = sym (ap (vote_reached (bare_setting trust sc) (bare_world sc) bytes) is.is)
+    go : (what : Reached) (given : Reply (Result Sent VoteRefusal)) → Replies (SaysVote (rules_in trust.accepts sc) trust.accepts m bytes) what given → vote_replied sc.known given ≡ vote_reached (bare_setting trust sc) (post_world sc) bytes what
+    go what reply.Down is = sym (ap (vote_reached (bare_setting trust sc) (post_world sc) bytes) is)
+    go what reply.Stopped is = sym (ap (vote_reached (bare_setting trust sc) (post_world sc) bytes) is.is)
     go what (reply.Answered given) is =
         sym (ap (vote_answered (setting_with sc.known) (world_with sc.known)) (vote_is trust.accepts m (vote_answer (rules_in trust.accepts sc) is.before bytes) given is.says.answer is.says.ended))
-        ∙ sym (vote_same (bare_setting trust sc) (bare_world sc) (vote_answer (rules_in trust.accepts sc) is.before bytes))
-        ∙ sym (ap (vote_reached (bare_setting trust sc) (bare_world sc) bytes) is.is)
+        ∙ sym (vote_same (bare_setting trust sc) (post_world sc) (vote_answer (rules_in trust.accepts sc) is.before bytes))
+        ∙ sym (ap (vote_reached (bare_setting trust sc) (post_world sc) bytes) is.is)
 
 -- ---- statements
 
@@ -135,13 +135,13 @@ pub hold_reply : (trust : Trust) (sc : Scene) (m : ℕ) (bytes : List ℕ) (give
     → hold_replied sc.known given ≡ hold_text_in trust sc m bytes
 hold_reply trust sc m bytes given is = go (reached_in (rules_in trust.accepts sc) sc.posts m (holds bytes)) given is
   where
-    go : (what : Reached) (given : Reply (Result Bool HoldRefusal)) → Replies (SaysHold (rules_in trust.accepts sc) bytes) what given → hold_replied sc.known given ≡ hold_reached (bare_setting trust sc) (bare_world sc) bytes what
-    go what reply.Down is = sym (ap (hold_reached (bare_setting trust sc) (bare_world sc) bytes) is)
-    go what reply.Stopped is = sym (ap (hold_reached (bare_setting trust sc) (bare_world sc) bytes) is.is)
+    go : (what : Reached) (given : Reply (Result Bool HoldRefusal)) → Replies (SaysHold (rules_in trust.accepts sc) bytes) what given → hold_replied sc.known given ≡ hold_reached (bare_setting trust sc) (post_world sc) bytes what
+    go what reply.Down is = sym (ap (hold_reached (bare_setting trust sc) (post_world sc) bytes) is)
+    go what reply.Stopped is = sym (ap (hold_reached (bare_setting trust sc) (post_world sc) bytes) is.is)
     go what (reply.Answered given) is =
         sym (ap (hold_answered (setting_with sc.known) (world_with sc.known)) (hold_is (hold_answer (rules_in trust.accepts sc) is.before bytes) given is.says.answer is.says.ended))
-        ∙ sym (hold_same (bare_setting trust sc) (bare_world sc) (hold_answer (rules_in trust.accepts sc) is.before bytes))
-        ∙ sym (ap (hold_reached (bare_setting trust sc) (bare_world sc) bytes) is.is)
+        ∙ sym (hold_same (bare_setting trust sc) (post_world sc) (hold_answer (rules_in trust.accepts sc) is.before bytes))
+        ∙ sym (ap (hold_reached (bare_setting trust sc) (post_world sc) bytes) is.is)
 
 -- ---- runs
 
@@ -154,16 +154,16 @@ run_is r before (Err (no_run.Halted first second)) is = is.answer
 run_is r before (Err no_run.Full) is = is.answer
 
 pub run_reply : (trust : Trust) (sc : Scene) (m : ℕ) (given : Reply (Result Ran RunRefusal)) → Replies (SaysRun (rules_in trust.accepts sc)) (reached_in (rules_in trust.accepts sc) sc.posts m runs) given
-    → run_replied sc.known m given ≡ run_reached (bare_setting trust sc) (bare_world sc) m (reached_in (rules_in trust.accepts sc) sc.posts m runs)
+    → run_replied sc.known m given ≡ run_reached (bare_setting trust sc) (post_world sc) m (reached_in (rules_in trust.accepts sc) sc.posts m runs)
 run_reply trust sc m given is = go (reached_in (rules_in trust.accepts sc) sc.posts m runs) given is
   where
-    go : (what : Reached) (given : Reply (Result Ran RunRefusal)) → Replies (SaysRun (rules_in trust.accepts sc)) what given → run_replied sc.known m given ≡ run_reached (bare_setting trust sc) (bare_world sc) m what
-    go what reply.Down is = sym (ap (run_reached (bare_setting trust sc) (bare_world sc) m) is)
-    go what reply.Stopped is = sym (ap (run_reached (bare_setting trust sc) (bare_world sc) m) is.is)
+    go : (what : Reached) (given : Reply (Result Ran RunRefusal)) → Replies (SaysRun (rules_in trust.accepts sc)) what given → run_replied sc.known m given ≡ run_reached (bare_setting trust sc) (post_world sc) m what
+    go what reply.Down is = sym (ap (run_reached (bare_setting trust sc) (post_world sc) m) is)
+    go what reply.Stopped is = sym (ap (run_reached (bare_setting trust sc) (post_world sc) m) is.is)
     go what (reply.Answered given) is =
         sym (ap (run_answered (setting_with sc.known) (world_with sc.known) m) (run_is (rules_in trust.accepts sc) is.before given is.says))
-        ∙ sym (run_same (bare_setting trust sc) (bare_world sc) m (run_answer (rules_in trust.accepts sc) is.before))
-        ∙ sym (ap (run_reached (bare_setting trust sc) (bare_world sc) m) is.is)
+        ∙ sym (run_same (bare_setting trust sc) (post_world sc) m (run_answer (rules_in trust.accepts sc) is.before))
+        ∙ sym (ap (run_reached (bare_setting trust sc) (post_world sc) m) is.is)
 
 pub run_states : (r : Rules) (m : ℕ) (what : Reached) (given : Reply (Result Ran RunRefusal)) → Replies (SaysRun r) what given → map (said_by m) (run_stated given) ≡ map (said_by m) (stated_in r runs what)
 unfolding stated

@@ -18,7 +18,7 @@ use Rattle.world_spec.proofs.LineWorlds.{turn_same}
 use Rattle.world_spec.specs.Known.{world_with}
 use Rattle.world_spec.specs.Seats.{Seated}
 use Rattle.world_spec.specs.Posts.{Post, reached_in, reached_post, reached_standing, stated_in}
-use Rattle.world_spec.specs.Scene.{Scene, bare_setting, bare_world, rules_in}
+use Rattle.world_spec.specs.Scene.{Scene, bare_setting, post_world, rules_in}
 use Rattle.world_spec.specs.SceneSteps.{standing_at}
 use Rattle.world_core.specs.Crews.{epoch_of}
 use Rattle.world_core.specs.Epochs.{turn_replied}
@@ -68,15 +68,15 @@ epoch_post r before x None e = absurd (let same : finds_down ≡ answers before 
 epoch_post r before x (Some p) e = epoch_standing r before x p.armed p.standing e
 
 pub turn_reply : (trust : Trust) (sc : Scene) (m epoch : ℕ) (given : Reply (Result (List Digest) TurnRefusal)) → epoch ≡ epoch_of (standing_at (slice_get sc.posts m)) → Replies (SaysTurn (rules_in trust.accepts sc)) (reached_in (rules_in trust.accepts sc) sc.posts m turns) given
-    → turn_replied sc.known m epoch given ≡ turn_reached (bare_setting trust sc) (bare_world sc) m (reached_in (rules_in trust.accepts sc) sc.posts m turns)
-turn_reply trust sc m epoch reply.Down at is = sym (ap (turn_reached (bare_setting trust sc) (bare_world sc) m) is)
-turn_reply trust sc m epoch reply.Stopped at is = sym (ap (turn_reached (bare_setting trust sc) (bare_world sc) m) is.is)
+    → turn_replied sc.known m epoch given ≡ turn_reached (bare_setting trust sc) (post_world sc) m (reached_in (rules_in trust.accepts sc) sc.posts m turns)
+turn_reply trust sc m epoch reply.Down at is = sym (ap (turn_reached (bare_setting trust sc) (post_world sc) m) is)
+turn_reply trust sc m epoch reply.Stopped at is = sym (ap (turn_reached (bare_setting trust sc) (post_world sc) m) is.is)
 turn_reply trust sc m epoch (reply.Answered given) at is =
     ap (λ (n : ℕ). turn_answered (world_with sc.known) m (member_in n) given) (at ∙ epoch_post (rules_in trust.accepts sc) is.before is.due (slice_get sc.posts m) is.is)
     ∙ epoch_alone (world_with sc.known) m is.before given
     ∙ sym (ap (turn_answered (world_with sc.known) m is.before) (turn_is (turn_answer (rules_in trust.accepts sc) is.before) given is.says.answer is.says.ended))
-    ∙ sym (turn_same (bare_setting trust sc) (bare_world sc) m is.before (turn_answer (rules_in trust.accepts sc) is.before))
-    ∙ sym (ap (turn_reached (bare_setting trust sc) (bare_world sc) m) is.is)
+    ∙ sym (turn_same (bare_setting trust sc) (post_world sc) m is.before (turn_answer (rules_in trust.accepts sc) is.before))
+    ∙ sym (ap (turn_reached (bare_setting trust sc) (post_world sc) m) is.is)
 
 -- nothing is stated
 pub turn_states : (r : Rules) (m : ℕ) (xs : List Said) (what : Reached) → xs ≡ xs ++ map (said_by m) (stated_in r turns what)

@@ -6,7 +6,7 @@ use Rattle.world_spec.specs.Terms.{Terms}
 use Rattle.world_spec.specs.Seats.{Seated}
 use Rattle.protocol_spec.specs.Chain.Certificates.{Rules}
 use Rattle.protocol_spec.specs.Member.Calls.{Call}
-use Rattle.world_spec.specs.Posts.{Post, changed_at, post_behind, posts_behind, reached_post, seat_at}
+use Rattle.world_spec.specs.Posts.{Post, post_honest, changed_at, post_behind, posts_behind, reached_post, seat_at}
 
 -- the terms of the committee, and its members
 pub record Crew : Type 0 where
@@ -27,7 +27,7 @@ abbrev pub ArePlaced : Terms → List Post → Type 0
 ArePlaced terms posts = (m : ℕ) → IsPlacedPost terms m (slice_get posts m)
 
 abbrev pub honest_flags : List Post → List Bool
-honest_flags posts = map (λ (p : Post). p.honest) posts
+honest_flags posts = map post_honest posts
 
 -- the member at this place, if it is there, honest and up
 abbrev pub honest_at : Option Post → Option Seated

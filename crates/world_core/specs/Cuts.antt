@@ -15,8 +15,9 @@ use Rattle.world_spec.specs.World.{Formed}
 use Rattle.world_spec.specs.Known.{Known}
 use Rattle.world_spec.specs.Terms.{Terms}
 use Rattle.world_spec.specs.Posts.{AddsAll, AddsLeft, MayAddLeft, Post, posts_behind, reached_in, record_left}
-use Rattle.world_spec.specs.Scene.{Scene, bare_setting, bare_world}
-use Rattle.world_spec.specs.SceneSteps.{Work, asks, hands, idle, next_on, sees_left, sees_to, with_order}
+use Rattle.world_spec.specs.Scene.{Scene, bare_setting, post_world}
+use Rattle.world_spec.specs.SceneSteps.{Work, asks, hands, idle, next_on, sees_left, sees_to}
+use Rattle.world_core.specs.Steps.{with_order}
 use Rattle.world_core.specs.Crews.{fallen_at}
 
 -- ---- beside the members
@@ -45,7 +46,7 @@ still_in sc = record { books = books_in sc; posts = sc.posts }
 
 -- the scene with a member's End of the open epoch as one more entry of the sequence, and no new epoch opened
 abbrev pub end_appended : Trust → Scene → ℕ → Scene
-end_appended trust sc m = with_order sc (appended_entry (bare_world sc) (sealed_end (bare_setting trust sc) m sc.epoch))
+end_appended trust sc m = with_order sc (appended_entry (post_world sc) (sealed_end (bare_setting trust sc) m sc.epoch))
 
 -- the member whose End a move is to order
 abbrev pub submits_end_of : Move → Option ℕ

@@ -21,7 +21,7 @@ use Rattle.world_spec.specs.Step.{executed_digest}
 use Rattle.world_spec.specs.Report.{ack_answered, end_answered, turn_answered}
 use Rattle.world_spec.specs.Known.{Known, world_with}
 use Rattle.world_spec.specs.Posts.{Post}
-use Rattle.world_spec.specs.SceneSteps.{says_in}
+use Rattle.world_core.specs.Steps.{says_in}
 use Rattle.world_lines.specs.Answers.{member_in}
 use Rattle.world_core.specs.declared.reply.Reply.{Reply}
 use Rattle.world_core.specs.declared.reply.Reply.TheVariants as reply

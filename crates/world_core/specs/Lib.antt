@@ -15,3 +15,4 @@ pub mod Epochs
 pub mod Replays
 pub mod Looks
 pub mod Cuts
+pub mod Steps

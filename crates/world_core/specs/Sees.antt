@@ -21,7 +21,8 @@ use Rattle.world_spec.specs.Scene.{Scene, rules_in}
 use Rattle.world_core.specs.Cuts.{books_in}
 use Rattle.world_core.specs.declared.reply.Reply.{Reply}
 use Rattle.world_core.specs.declared.reply.Reply.TheVariants as reply
-use Rattle.world_spec.specs.SceneSteps.{entries_lines_in, seat_state, sees_left, sees_to, standing_at}
+use Rattle.world_spec.specs.SceneSteps.{seat_state, sees_left, sees_to, standing_at}
+use Rattle.world_core.specs.Steps.{entries_lines_in}
 
 -- by the stakes of the committee
 abbrev pub see_replied : Known → List ℕ → ℕ → ℕ → Reply (Result Seen SeeRefusal) → Lines

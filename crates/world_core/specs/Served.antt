@@ -12,6 +12,7 @@ use Rattle.world_lines.specs.Pushed.{GrowsToward}
 use Rattle.world_spec.specs.Posts.{reached_in, record_left}
 use Rattle.world_spec.specs.Scene.{Scene, rules_in}
 use Rattle.world_spec.specs.SceneSteps.{lines_in, standing_at, steps_to, work_of}
+use Rattle.world_core.specs.Steps.{lines_after, scene_after}
 use Rattle.world_spec.specs.SceneWorlds.{is_restart}
 use Rattle.world_spec.specs.Setting.{Trust}
 use Rattle.world_core.specs.declared.reply.Reply.{Reply}
@@ -45,13 +46,13 @@ pub record Served {A : Type 0} (Says : Member → A → Type 0) (r : Rules) (cal
 -- a line that is no `restart`: the world, the report's lines and the records are the definition's if it was completed; if it
 -- broke off, its call came so far (`cut`), and all else is as before (`books`, `quiet`, `said`)
 pub record LineAfter {E : Type 0} (trust : Trust) (old : Scene) (e : Event) (new : Scene) (before now : Option Journals) (result : Result (List Line) E) : Type 0 where
-  pub world : OnOk result (new ≡ steps_to trust old e)
-  pub lines : IfOk result (λ lines. lines ≡ lines_in trust old e)
+  pub world : OnOk result (new ≡ scene_after trust old e)
+  pub lines : IfOk result (λ lines. lines ≡ lines_after trust old e)
   pub kept : LeavesAs (rules_in trust.accepts old) old (work_of old e) before now result
   pub cut : OnErr result (LineCut (rules_in trust.accepts old) old (work_of old e) new.posts before now)
   pub books : OnErr result (SeenCut books_in trust old (orders_end e) new)
   pub quiet : OnErr result (is_quiet e ≡ true → new.posts ≡ old.posts)
-  pub said : OnErr result (GrowsToward old.said new.said (steps_to trust old e).said)
+  pub said : OnErr result (GrowsToward old.said new.said (scene_after trust old e).said)
 
 -- any line: likewise, and what a `restart` promises
 pub record StepAfter (trust : Trust) (old : Scene) (e : Event) (new : Scene) (before now : Option Journals) (result : Result (List Line) WorldFault) : Type 0 where

@@ -4,8 +4,9 @@ ghost use Rattle.std.specs.Prelude.{◌≡◌, ◌∷◌, ◌++◌, [], IfOk, On
 ghost use Rattle.report_text.specs.declared.lines.Line.TheVariants as line;
 ghost use Rattle.schedule_text.specs.declared.words.Event.TheVariants as events;
 ghost use Rattle.world_spec.specs.Known.{world_with};
-ghost use Rattle.world_spec.specs.Scene.{bare_setting, bare_world, rules_in};
-ghost use Rattle.world_spec.specs.SceneSteps.{ack_lines_in, acked_in, seat_state, standing_at, steps_to};
+ghost use Rattle.world_spec.specs.Scene.{bare_setting, post_world, rules_in};
+ghost use Rattle.world_spec.specs.SceneSteps.{seat_state, standing_at};
+ghost use Rattle.world_core.specs.Steps.{ack_lines_in, acked_in, scene_after};
 ghost use Rattle.world_spec.specs.Terms.{rules_for};
 ghost use Rattle.world_core.specs.Cuts.{still_in};
 ghost use Rattle.world_core.specs.Epochs.{ack_statements, ack_text_by, false_ack_by};
@@ -118,10 +119,10 @@ impl World {
         tx: &[u8],
         spoiled: bool,
     ) -> Result<Seq<Line>, OutOfMemory>
-        ensures world { OnOk result (self.new ≡ acked_in (rules_in (S.accepts sealer.now) self.old) self.old member spoiled (made_named (bare_world self.old) tx.now)) }
-        ensures lines { IfOk result (λ lines. lines ≡ ack_lines_in (trust_by (S.made sealer.now) (S.accepts sealer.now)) self.old member tx.now (made_named (bare_world self.old) tx.now)) }
+        ensures world { OnOk result (self.new ≡ acked_in (rules_in (S.accepts sealer.now) self.old) self.old member spoiled (made_named (post_world self.old) tx.now)) }
+        ensures lines { IfOk result (λ lines. lines ≡ ack_lines_in (trust_by (S.made sealer.now) (S.accepts sealer.now)) self.old member tx.now (made_named (post_world self.old) tx.now)) }
         ensures still { still_in self.new ≡ still_in self.old }
-        ensures said { OnErr result (GrowsToward self.old.said self.new.said (steps_to (trust_by (S.made sealer.now) (S.accepts sealer.now)) self.old (events.Ack member tx.now spoiled)).said) }
+        ensures said { OnErr result (GrowsToward self.old.said self.new.said (scene_after (trust_by (S.made sealer.now) (S.accepts sealer.now)) self.old (events.Ack member tx.now spoiled)).said) }
     {
         let Some(made) = self.directory.made(tx) else {
             return ack_line(self.alloc, member, tx, AckText::Down);
@@ -150,7 +151,7 @@ impl World {
         tx: &[u8],
         members: &[u32],
     ) -> Result<Seq<Line>, OutOfMemory>
-        ensures { IfOk result (λ lines. lines ≡ final_lines (bare_setting (trust_by (S.made _sealer.now) (S.accepts _sealer.now)) self.now) (bare_world self.now) tx.now members.now (made_named (bare_world self.now) tx.now)) }
+        ensures { IfOk result (λ lines. lines ≡ final_lines (bare_setting (trust_by (S.made _sealer.now) (S.accepts _sealer.now)) self.now) (post_world self.now) tx.now members.now (made_named (post_world self.now) tx.now)) }
     {
         let Some(made) = self.directory.made(tx) else {
             return final_line(self.alloc, tx, FinalText::NoAck { member: 0 });

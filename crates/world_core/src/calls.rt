@@ -8,7 +8,7 @@ ghost use Rattle.schedule_text.specs.declared.words.Event.TheVariants as events;
 ghost use Rattle.world_spec.specs.Names.{cert_named, made_named};
 ghost use Rattle.world_spec.specs.World.{said_by};
 ghost use Rattle.world_lines.specs.Pushed.{GrowsToward};
-ghost use Rattle.world_spec.specs.Scene.{bare_world};
+ghost use Rattle.world_spec.specs.Scene.{post_world};
 ghost use Rattle.world_core.specs.declared.reply.SeatFault.TheVariants as fault;
 ghost use Rattle.world_core.specs.Served.{KeeperAfter, LineAfter};
 ghost use Rattle.world_core.specs.Texts.{hold_replied, run_replied, run_stated, spelled_cert, spelled_tx, vote_replied};
@@ -124,7 +124,7 @@ impl World {
     /// The encoding of the transaction of this name; none exactly if no line made one.
     #[tactic(auto, using(crate::proofs::Voting::spelled_named))]
     fn spelled_tx(&self, name: &[u8]) -> Result<Option<Seq<u8>>, OutOfMemory>
-        ensures { IfOk result (λ bytes. bytes ≡ option_map spelled_tx (made_named (bare_world self.now) name.now)) }
+        ensures { IfOk result (λ bytes. bytes ≡ option_map spelled_tx (made_named (post_world self.now) name.now)) }
     {
         let Some(made) = self.directory.made(name) else {
             return Ok(None);
@@ -135,7 +135,7 @@ impl World {
     /// The encoding of the certificate that was formed last for this name; none exactly if none was.
     #[tactic(auto, using(crate::proofs::Voting::spelled_cert))]
     fn spelled_cert(&self, name: &[u8]) -> Result<Option<Seq<u8>>, OutOfMemory>
-        ensures { IfOk result (λ bytes. bytes ≡ option_map spelled_cert (cert_named (bare_world self.now) name.now)) }
+        ensures { IfOk result (λ bytes. bytes ≡ option_map spelled_cert (cert_named (post_world self.now) name.now)) }
     {
         let Some(cert) = self.certs.last_named(name) else {
             return Ok(None);

@@ -4,7 +4,7 @@ ghost use Rattle.std.specs.Prelude.{◌≡◌, IfOk, OnErr, OnOk};
 ghost use Rattle.world_spec.specs.Names.{made_named};
 ghost use Rattle.world_spec.specs.Report.{cert_lines};
 ghost use Rattle.world_spec.specs.Step.{formed};
-ghost use Rattle.world_spec.specs.Scene.{bare_setting, bare_world};
+ghost use Rattle.world_spec.specs.Scene.{bare_setting, post_world};
 ghost use Rattle.world_core.specs.Cuts.{still_in};
 ghost use Rattle.world_core.specs.Trusts.{trust_by};
 
@@ -22,8 +22,8 @@ impl World {
         tx: &[u8],
         members: &[u32],
     ) -> Result<Seq<Line>, OutOfMemory>
-        ensures world { OnOk result (self.new ≡ record self.old { certs = (formed (bare_setting (trust_by (S.made _sealer.now) (S.accepts _sealer.now)) self.old) (bare_world self.old) members.now (made_named (bare_world self.old) tx.now)).certs }) }
-        ensures lines { IfOk result (λ lines. lines ≡ cert_lines (bare_setting (trust_by (S.made _sealer.now) (S.accepts _sealer.now)) self.old) (bare_world self.old) tx.now members.now (made_named (bare_world self.old) tx.now)) }
+        ensures world { OnOk result (self.new ≡ record self.old { certs = (formed (bare_setting (trust_by (S.made _sealer.now) (S.accepts _sealer.now)) self.old) (post_world self.old) members.now (made_named (post_world self.old) tx.now)).certs }) }
+        ensures lines { IfOk result (λ lines. lines ≡ cert_lines (bare_setting (trust_by (S.made _sealer.now) (S.accepts _sealer.now)) self.old) (post_world self.old) tx.now members.now (made_named (post_world self.old) tx.now)) }
         ensures still { OnErr result (still_in self.new ≡ still_in self.old) }
         ensures unsaid { self.new.said ≡ self.old.said }
     {

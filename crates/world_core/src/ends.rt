@@ -4,7 +4,8 @@ ghost use Rattle.std.specs.Prelude.{◌≡◌, ◌∷◌, ◌++◌, [], IfOk, On
 ghost use Rattle.report_text.specs.declared.lines.Line.TheVariants as line;
 ghost use Rattle.schedule_text.specs.declared.words.Event.TheVariants as events;
 ghost use Rattle.world_spec.specs.Known.{world_with};
-ghost use Rattle.world_spec.specs.SceneSteps.{lines_in, seat_state, standing_at, steps_to};
+ghost use Rattle.world_spec.specs.SceneSteps.{seat_state, standing_at};
+ghost use Rattle.world_core.specs.Steps.{lines_after, scene_after};
 ghost use Rattle.world_spec.specs.Terms.{rules_for};
 ghost use Rattle.world_core.specs.Cuts.{still_in};
 ghost use Rattle.world_core.specs.Epochs.{end_statements, end_text_by};
@@ -75,16 +76,16 @@ fn end_line(alloc: Global, member: u32, text: EndText) -> Result<Seq<Line>, OutO
 
 impl World {
     /// The line `end`: a member says that its epoch is to end. It keeps no record.
-    #[tactic(auto, unfolding(world_spec::specs::SceneSteps::steps_to, world_spec::specs::SceneSteps::lines_in), using(crate::proofs::Silent::end_scene, crate::proofs::Silent::end_text_is, crate::proofs::Stated::unsaid_on))]
+    #[tactic(auto, unfolding(crate::specs::Steps::scene_after, crate::specs::Steps::lines_after), using(crate::proofs::Silent::end_scene, crate::proofs::Silent::end_text_is, crate::proofs::Stated::unsaid_on))]
     pub(crate) fn say_end<S: MakesSeals>(
         &mut self,
         sealer: &S,
         member: u32,
     ) -> Result<Seq<Line>, OutOfMemory>
-        ensures world { OnOk result (self.new ≡ steps_to (trust_by (S.made sealer.now) (S.accepts sealer.now)) self.old (events.End member)) }
-        ensures lines { IfOk result (λ lines. lines ≡ lines_in (trust_by (S.made sealer.now) (S.accepts sealer.now)) self.old (events.End member)) }
+        ensures world { OnOk result (self.new ≡ scene_after (trust_by (S.made sealer.now) (S.accepts sealer.now)) self.old (events.End member)) }
+        ensures lines { IfOk result (λ lines. lines ≡ lines_after (trust_by (S.made sealer.now) (S.accepts sealer.now)) self.old (events.End member)) }
         ensures still { still_in self.new ≡ still_in self.old }
-        ensures said { OnErr result (GrowsToward self.old.said self.new.said (steps_to (trust_by (S.made sealer.now) (S.accepts sealer.now)) self.old (events.End member)).said) }
+        ensures said { OnErr result (GrowsToward self.old.said self.new.said (scene_after (trust_by (S.made sealer.now) (S.accepts sealer.now)) self.old (events.End member)).said) }
     {
         let text = say_end(&self.seats, &mut self.said, &self.directory, sealer, member)?;
         end_line(self.alloc, member, text)

@@ -6,15 +6,16 @@ ghost use Rattle.chain_messages.specs.declared.messages.Statement.TheVariants as
 ghost use Rattle.report_text.specs.declared.lines.Line.TheVariants as line;
 ghost use Rattle.report_text.specs.declared.lines.OrderEndText.TheVariants as order_end_text;
 ghost use Rattle.schedule_text.specs.declared.words.Event.TheVariants as events;
-ghost use Rattle.world_spec.specs.Scene.{bare_setting, bare_world};
-ghost use Rattle.world_spec.specs.SceneSteps.{steps_to, with_order};
+ghost use Rattle.world_spec.specs.Posts.{post_honest};
+ghost use Rattle.world_spec.specs.Scene.{bare_setting, post_world};
+ghost use Rattle.world_core.specs.Steps.{scene_after, with_order};
 ghost use Rattle.world_spec.specs.SceneWorlds.{AreKeepable};
 ghost use Rattle.world_core.specs.Cuts.{SeenCut, still_in};
 ghost use Rattle.world_core.specs.Trusts.{trust_by};
 ghost use Rattle.world_lines.specs.Pushed.{GrowsToward};
 ghost use Rattle.world_spec.specs.Names.{cert_named};
-ghost use Rattle.world_spec.specs.Report.{order_end_said, order_said};
-ghost use Rattle.world_spec.specs.Step.{appended_entry, end_ordered, open_entries, ordered, ordered_end, says};
+ghost use Rattle.world_spec.specs.Report.{order_end_by, order_said};
+ghost use Rattle.world_spec.specs.Step.{appended_entry, end_by, open_entries, ordered, ordered_end, says};
 ghost use Rattle.world_spec.specs.World.{said_by};
 
 use crate::votes::is_honest;
@@ -36,8 +37,8 @@ impl World {
     /// The line `order T`: orders the certificate that was formed last for this name, if it is of the open epoch.
     #[tactic(auto, using(crate::proofs::Ordered::orders_none, crate::proofs::Ordered::orders_late, crate::proofs::Ordered::orders_one, crate::proofs::Ordered::order_kept))]
     pub(crate) fn order_cert(&mut self, tx: &[u8]) -> Result<Seq<Line>, OutOfMemory>
-        ensures world { OnOk result (self.new ≡ with_order self.old (ordered (bare_world self.old) (cert_named (bare_world self.old) tx.now))) }
-        ensures lines { IfOk result (λ lines. lines ≡ line.Order tx.now (order_said (bare_world self.old) (cert_named (bare_world self.old) tx.now)) ∷ []) }
+        ensures world { OnOk result (self.new ≡ with_order self.old (ordered (post_world self.old) (cert_named (post_world self.old) tx.now))) }
+        ensures lines { IfOk result (λ lines. lines ≡ line.Order tx.now (order_said (post_world self.old) (cert_named (post_world self.old) tx.now)) ∷ []) }
         ensures still { OnErr result (still_in self.new ≡ still_in self.old) }
         ensures unsaid { self.new.said ≡ self.old.said }
     {
@@ -61,8 +62,8 @@ impl World {
     /// The line `order commit`: orders a mark. Memory for the line is taken first.
     #[tactic(auto, using(crate::proofs::Ordered::orders_mark, crate::proofs::Ordered::order_kept, crate::proofs::Ordered::short_mark))]
     pub(crate) fn order_commit(&mut self) -> Result<Seq<Line>, OutOfMemory>
-        ensures world { OnOk result (self.new ≡ with_order self.old (appended_entry (bare_world self.old) entry.Commit)) }
-        ensures lines { IfOk result (λ lines. lines ≡ line.OrderCommit (length (open_entries (bare_world self.old))) ∷ []) }
+        ensures world { OnOk result (self.new ≡ with_order self.old (appended_entry (post_world self.old) entry.Commit)) }
+        ensures lines { IfOk result (λ lines. lines ≡ line.OrderCommit (length (open_entries (post_world self.old))) ∷ []) }
         ensures still { OnErr result (still_in self.new ≡ still_in self.old) }
         ensures unsaid { self.new.said ≡ self.old.said }
     {
@@ -80,8 +81,8 @@ impl World {
         sealer: &S,
         member: u32,
     ) -> Result<Seq<Line>, OutOfMemory>
-        ensures world { OnOk result (self.new ≡ with_order self.old (ordered_end (bare_setting (trust_by (S.made sealer.now) (S.accepts sealer.now)) self.old) (bare_world self.old) member self.old.epoch)) }
-        ensures lines { IfOk result (λ lines. lines ≡ line.OrderEnd member (order_end_text.Entry (length (open_entries (bare_world self.old)))) ∷ []) }
+        ensures world { OnOk result (self.new ≡ with_order self.old (ordered_end (bare_setting (trust_by (S.made sealer.now) (S.accepts sealer.now)) self.old) (post_world self.old) member self.old.epoch)) }
+        ensures lines { IfOk result (λ lines. lines ≡ line.OrderEnd member (order_end_text.Entry (length (open_entries (post_world self.old)))) ∷ []) }
         ensures still { OnErr result (SeenCut still_in (trust_by (S.made sealer.now) (S.accepts sealer.now)) self.old (Some member) self.new) }
         ensures unsaid { self.new.said ≡ self.old.said }
     {
@@ -101,8 +102,8 @@ impl World {
         sealer: &S,
         member: u32,
     ) -> Result<Seq<Line>, OutOfMemory>
-        ensures world { OnOk result (self.new ≡ with_order self.old (ordered_end (bare_setting (trust_by (S.made sealer.now) (S.accepts sealer.now)) self.old) (says (S.made sealer.now) (bare_world self.old) member (statement.End self.old.epoch)) member self.old.epoch)) }
-        ensures lines { IfOk result (λ lines. lines ≡ line.OrderEnd member (order_end_text.Entry (length (open_entries (bare_world self.old)))) ∷ []) }
+        ensures world { OnOk result (self.new ≡ with_order self.old (ordered_end (bare_setting (trust_by (S.made sealer.now) (S.accepts sealer.now)) self.old) (says (S.made sealer.now) (post_world self.old) member (statement.End self.old.epoch)) member self.old.epoch)) }
+        ensures lines { IfOk result (λ lines. lines ≡ line.OrderEnd member (order_end_text.Entry (length (open_entries (post_world self.old)))) ∷ []) }
         ensures still { OnErr result (SeenCut still_in (trust_by (S.made sealer.now) (S.accepts sealer.now)) self.old (Some member) self.new) }
         ensures said { OnErr result (GrowsToward self.old.said self.new.said (self.old.said ++ said_by member (statement.End self.old.epoch) ∷ [])) }
     {
@@ -120,10 +121,10 @@ impl World {
         sealer: &S,
         member: u32,
     ) -> Result<Seq<Line>, OutOfMemory>
-        ensures world { OnOk result (self.new ≡ with_order self.old (end_ordered (bare_setting (trust_by (S.made sealer.now) (S.accepts sealer.now)) self.old) (bare_world self.old) member)) }
-        ensures lines { IfOk result (λ lines. lines ≡ line.OrderEnd member (order_end_said (bare_world self.old) member) ∷ []) }
+        ensures world { OnOk result (self.new ≡ with_order self.old (end_by post_honest (bare_setting (trust_by (S.made sealer.now) (S.accepts sealer.now)) self.old) (post_world self.old) member)) }
+        ensures lines { IfOk result (λ lines. lines ≡ line.OrderEnd member (order_end_by post_honest (post_world self.old) member) ∷ []) }
         ensures still { OnErr result (SeenCut still_in (trust_by (S.made sealer.now) (S.accepts sealer.now)) self.old (Some member) self.new) }
-        ensures said { OnErr result (GrowsToward self.old.said self.new.said (steps_to (trust_by (S.made sealer.now) (S.accepts sealer.now)) self.old (events.OrderEnd member)).said) }
+        ensures said { OnErr result (GrowsToward self.old.said self.new.said (scene_after (trust_by (S.made sealer.now) (S.accepts sealer.now)) self.old (events.OrderEnd member)).said) }
     {
         if !is_honest(self.seats.flags(), member) {
             return self.false_end(sealer, member);

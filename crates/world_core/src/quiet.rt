@@ -4,7 +4,8 @@ ghost use Rattle.std.specs.Prelude.{◌≡◌, ◌∷◌, [], IfOk, OnErr, OnOk,
 ghost use Rattle.report_text.specs.declared.lines.Line.TheVariants as line;
 ghost use Rattle.world_lines.specs.Lines.{line_of};
 ghost use Rattle.world_spec.specs.Posts.{armed_at};
-ghost use Rattle.world_spec.specs.SceneSteps.{standing_at, with_tx};
+ghost use Rattle.world_spec.specs.SceneSteps.{standing_at};
+ghost use Rattle.world_core.specs.Steps.{with_tx};
 ghost use Rattle.world_core.specs.Cuts.{still_in};
 ghost use Rattle.world_core.specs.Texts.{show_by};
 ghost use Rattle.world_core.specs.Trusts.{trust_by};

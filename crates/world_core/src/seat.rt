@@ -6,7 +6,7 @@ ghost use Rattle.world_spec.specs.Seats.{Seated};
 ghost use Rattle.world_spec.specs.Terms.{rules_for};
 ghost use Rattle.world_spec.specs.Step.{executed_digest};
 ghost use Rattle.world_spec.specs.Posts.{arming, reached_post, record_left};
-ghost use Rattle.world_spec.specs.SceneSteps.{held_by};
+ghost use Rattle.world_core.specs.Steps.{held_by};
 ghost use Rattle.world_core.specs.declared.reply.SeatFault.TheVariants as faults;
 ghost use Rattle.world_core.specs.Crews.{IsAble, IsPlaced, PostAfter, fallen, honest_at};
 ghost use Rattle.world_core.specs.Replies.{Leaves, Replies};

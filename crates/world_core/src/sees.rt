@@ -7,8 +7,9 @@ ghost use Rattle.report_text.specs.declared.lines.Line.TheVariants as line;
 ghost use Rattle.report_text.specs.declared.lines.SeeText.TheVariants as see_text;
 ghost use Rattle.schedule_text.specs.declared.words.Event.TheVariants as events;
 ghost use Rattle.world_spec.specs.Known.{world_with};
-ghost use Rattle.world_spec.specs.Scene.{bare_world, rules_in};
-ghost use Rattle.world_spec.specs.SceneSteps.{call_lines_in, called_if, entries_lines_in, left_if, lines_in, next_on, sees_left, sees_to, steps_to, work_of};
+ghost use Rattle.world_spec.specs.Scene.{post_world, rules_in};
+ghost use Rattle.world_spec.specs.SceneSteps.{called_if, left_if, next_on, sees_left, sees_to, work_of};
+ghost use Rattle.world_core.specs.Steps.{call_lines_in, entries_lines_in, lines_after, scene_after};
 ghost use Rattle.world_core.specs.declared.reply.SeatFault.TheVariants as fault;
 ghost use Rattle.world_core.specs.Cuts.{EntriesCut, LineCut, NextCut, books_in};
 ghost use Rattle.world_core.specs.Kept.{LeavesAs};
@@ -227,7 +228,7 @@ impl World {
 
     /// How many entries a member has before it.
     fn entries_left(&self, validator: &Validator) -> u64
-        ensures { result ≡ entries_left (bare_world self.now) (Some validator.now.state) }
+        ensures { result ≡ entries_left (post_world self.now) (Some validator.now.state) }
     {
         self.order
             .count(validator.epoch())
@@ -235,7 +236,7 @@ impl World {
     }
 
     /// The line `see`: hands a member the next entries of its sequence, this many at most.
-    #[tactic(auto, unfolding(world_spec::specs::SceneSteps::steps_to, world_spec::specs::SceneSteps::lines_in, world_spec::specs::SceneSteps::work_of), using(crate::proofs::SeeLines::down_world, crate::proofs::SeeLines::down_lines, crate::proofs::SeeLines::down_kept, crate::proofs::SeeLines::halted_world, crate::proofs::SeeLines::halted_lines, crate::proofs::SeeLines::halted_kept, crate::proofs::SeeLines::taken_world, crate::proofs::SeeLines::taken_kept, crate::proofs::SeeLines::taken_cut, crate::proofs::SeeLines::nothing_lines, crate::proofs::SeeLines::taken_lines))]
+    #[tactic(auto, unfolding(crate::specs::Steps::scene_after, crate::specs::Steps::lines_after, world_spec::specs::SceneSteps::work_of), using(crate::proofs::SeeLines::down_world, crate::proofs::SeeLines::down_lines, crate::proofs::SeeLines::down_kept, crate::proofs::SeeLines::halted_world, crate::proofs::SeeLines::halted_lines, crate::proofs::SeeLines::halted_kept, crate::proofs::SeeLines::taken_world, crate::proofs::SeeLines::taken_kept, crate::proofs::SeeLines::taken_cut, crate::proofs::SeeLines::nothing_lines, crate::proofs::SeeLines::taken_lines))]
     pub(crate) fn see<R: Threads + Sync, D: Keeper, S: MakesSeals>(
         &mut self,
         rt: &R,
@@ -245,12 +246,12 @@ impl World {
         entries: u32,
     ) -> Result<Seq<Line>, SeatFault>
         requires room { length self.old.posts ≤ D.width keeper.old }
-        ensures world { OnOk result (self.new ≡ steps_to (trust_by (S.made sealer.now) (S.accepts sealer.now)) self.old (events.See member entries)) }
-        ensures lines { IfOk result (λ lines. lines ≡ lines_in (trust_by (S.made sealer.now) (S.accepts sealer.now)) self.old (events.See member entries)) }
+        ensures world { OnOk result (self.new ≡ scene_after (trust_by (S.made sealer.now) (S.accepts sealer.now)) self.old (events.See member entries)) }
+        ensures lines { IfOk result (λ lines. lines ≡ lines_after (trust_by (S.made sealer.now) (S.accepts sealer.now)) self.old (events.See member entries)) }
         ensures kept { LeavesAs (rules_in (S.accepts sealer.now) self.old) self.old (work_of self.old (events.See member entries)) (D.lists keeper.old) (D.lists keeper.new) result }
         ensures cut { OnErr result (LineCut (rules_in (S.accepts sealer.now) self.old) self.old (work_of self.old (events.See member entries)) self.new.posts (D.lists keeper.old) (D.lists keeper.new)) }
         ensures books { books_in self.new ≡ books_in self.old }
-        ensures said { OnErr result (GrowsToward self.old.said self.new.said (steps_to (trust_by (S.made sealer.now) (S.accepts sealer.now)) self.old (events.See member entries)).said) }
+        ensures said { OnErr result (GrowsToward self.old.said self.new.said (scene_after (trust_by (S.made sealer.now) (S.accepts sealer.now)) self.old (events.See member entries)).said) }
         ensures width { D.width keeper.new ≡ D.width keeper.old }
         ensures later { D.failed keeper.old ≤ D.failed keeper.new }
         ensures fault { IsErrOf result fault.KeepFault → Rose (D.failed keeper.old) (D.failed keeper.new) }

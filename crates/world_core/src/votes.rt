@@ -2,9 +2,10 @@
 
 ghost use Rattle.std.specs.Prelude.{◌≡◌, IfOk, OnErr, OnOk, slice_get};
 ghost use Rattle.world_spec.specs.Names.{made_named};
-ghost use Rattle.world_spec.specs.Report.{fvote_lines};
-ghost use Rattle.world_spec.specs.Step.{fvoted};
-ghost use Rattle.world_spec.specs.Scene.{bare_setting, bare_world};
+ghost use Rattle.world_spec.specs.Report.{fvote_lines_by};
+ghost use Rattle.world_spec.specs.Step.{fvoted_by};
+ghost use Rattle.world_spec.specs.Posts.{post_honest};
+ghost use Rattle.world_spec.specs.Scene.{bare_setting, post_world};
 ghost use Rattle.world_core.specs.Cuts.{still_in};
 ghost use Rattle.world_core.specs.Trusts.{trust_by};
 ghost use Rattle.world_core.specs.Votes.{flag_at};
@@ -35,8 +36,8 @@ impl World {
         tx: &[u8],
         words: &[Option<Seq<u8>>],
     ) -> Result<Seq<Line>, OutOfMemory>
-        ensures world { OnOk result (self.new ≡ record self.old { said = (fvoted (bare_setting (trust_by (S.made sealer.now) (S.accepts sealer.now)) self.old) (bare_world self.old) member words.now (made_named (bare_world self.old) tx.now)).said }) }
-        ensures lines { IfOk result (λ lines. lines ≡ fvote_lines (bare_world self.old) member tx.now words.now (made_named (bare_world self.old) tx.now)) }
+        ensures world { OnOk result (self.new ≡ record self.old { said = (fvoted_by post_honest (bare_setting (trust_by (S.made sealer.now) (S.accepts sealer.now)) self.old) (post_world self.old) member words.now (made_named (post_world self.old) tx.now)).said }) }
+        ensures lines { IfOk result (λ lines. lines ≡ fvote_lines_by post_honest (post_world self.old) member tx.now words.now (made_named (post_world self.old) tx.now)) }
         ensures still { still_in self.new ≡ still_in self.old }
         ensures unsaid { OnErr result (self.new.said ≡ self.old.said) }
     {

@@ -4,7 +4,7 @@ use Rattle.std.specs.Prelude.{ℕ, Bool, List, map, Option, None, if◌then◌el
 use Rattle.std.specs.List.{enumerate_from}
 use Rattle.digest_core.specs.declared.Digest.{Digest}
 use Rattle.protocol_spec.specs.Chain.Words.{first_of}
-use Rattle.world_spec.specs.World.{Said, Seat}
+use Rattle.world_spec.specs.World.{Said, Seat, seat_honest}
 use Rattle.world_spec.specs.Step.{last_said, vote_in}
 
 -- the origins of a member's last vote for the transaction, which is of this epoch
@@ -19,9 +19,6 @@ vote_if said epoch tx flag = if flag.1 then vote_by said epoch tx flag.0 else No
 abbrev pub first_vote : List Said → ℕ → Digest → List Bool → Option (List (Option Digest))
 first_vote said epoch tx honest = first_of (vote_if said epoch tx) (enumerate_from 0 honest)
 
-abbrev pub honest_flag : Seat → Bool
-honest_flag seat = seat.honest
-
 -- which members of a world are honest, by number
 abbrev pub flags_of : List Seat → List Bool
-flags_of seats = map honest_flag seats
+flags_of seats = map seat_honest seats

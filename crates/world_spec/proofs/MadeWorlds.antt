@@ -6,14 +6,14 @@ use Rattle.chain_types.specs.declared.transactions.Transaction.{Transaction}
 use Rattle.schedule_text.specs.declared.words.InputWord.{InputWord}
 use Rattle.schedule_text.specs.declared.words.InputWord.TheVariants as input_word
 use Rattle.world_spec.specs.Setting.{Setting}
-use Rattle.world_spec.specs.World.{World}
-use Rattle.world_spec.specs.Making.{TxLine, command_of, input_of, made_as, transaction_of}
+use Rattle.world_spec.specs.World.{Seating, WorldOf}
+use Rattle.world_spec.specs.Making.{TxLine, command_of, input_over, made_as, transaction_over}
 use Rattle.world_spec.specs.Known.{names_of}
 use Rattle.world_spec.specs.MadeLines.{input_by, line_made, made_by, reference_by, transaction_by}
-use Rattle.world_spec.specs.HeldDigests.{held_in}
+use Rattle.world_spec.specs.HeldDigests.{held_over}
 
-module _ (s : Setting) (w : World) where
-  input_same : (word : InputWord) → input_of s w word ≡ input_by (names_of s w) (held_in s w) word
+module _ {S : Type 0} (k : Seating S) (s : Setting) (w : WorldOf S) where
+  input_same : (word : InputWord) → input_over k s w word ≡ input_by (names_of s w) (held_over k w) word
   input_same (input_word.Number n) = refl
   input_same (input_word.Address name) = refl
   input_same (input_word.Bytes bytes) = refl
@@ -25,14 +25,14 @@ module _ (s : Setting) (w : World) where
   with_inputs l f = record {
     epoch = l.epoch;
     sender = record { 0 = address_of_name l.sender };
-    gas = reference_by (names_of s w) (held_in s w) l.gas;
+    gas = reference_by (names_of s w) (held_over k w) l.gas;
     budget = l.budget;
     inputs = map f l.inputs;
     commands = map command_of l.commands;
   }
 
-  pub transaction_same : (l : TxLine) → transaction_of s w l ≡ transaction_by (names_of s w) (held_in s w) l
+  pub transaction_same : (l : TxLine) → transaction_over k s w l ≡ transaction_by (names_of s w) (held_over k w) l
   transaction_same l = ap (with_inputs l) (λ i word. input_same word i)
 
-  pub line_same : (l : TxLine) → made_as s l.name l.spoiled (transaction_of s w l) ≡ line_made (names_of s w) (held_in s w) s.seal l
+  pub line_same : (l : TxLine) → made_as s l.name l.spoiled (transaction_over k s w l) ≡ line_made (names_of s w) (held_over k w) s.seal l
   line_same l = ap (made_by s.seal l.name l.spoiled) (transaction_same l)

@@ -43,6 +43,9 @@ state_or (Some seat) = seat.state
 abbrev pub seat_with : Rules → Option Record → Seated → Seated
 seat_with r x seat = record seat { state = after_due r seat.state x }
 
+abbrev pub post_honest : Post → Bool
+post_honest p = p.honest
+
 -- a start needs the member's records, which a post has not: see `started_at`
 abbrev pub post_acts : Rules → Post → Deed → Post
 post_acts r p (keeps x) = record p { standing = option_map (seat_with r x) p.standing }
@@ -52,7 +55,7 @@ post_acts r p starts = p
 
 abbrev pub by_posts : (Signer → List ℕ → Digest) → Rules → Seating Post
 by_posts seal r = record {
-  honest = λ p. p.honest;
+  honest = post_honest;
   up = λ p. is_some p.standing;
   armed = λ p. p.armed;
   state = λ p. state_or p.standing;

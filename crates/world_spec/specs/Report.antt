@@ -221,9 +221,6 @@ honest_end_said w (Some epoch) = if epoch == w.epoch then order_end_text.Entry (
 abbrev pub order_end_by : {S : Type 0} → (S → Bool) → WorldOf S → ℕ → OrderEndText
 order_end_by honest w m = if honest_in honest w m then honest_end_said w (last_said end_in m w.said) else order_end_text.Entry (length (open_entries w))
 
-abbrev pub order_end_said : World → ℕ → OrderEndText
-order_end_said w m = order_end_by seat_honest w m
-
 -- ---- checkpoints, which come after the entry or the run that completed them
 
 abbrev pub checkpoint_line : {S : Type 0} → WorldOf S → Checkpoint → Line

@@ -1,6 +1,6 @@
 -- What a world is without the members' records: what is known under names, what was ordered, stated and formed, and
 -- the members as they stand. Source: this profile.
-use Rattle.std.specs.Prelude.{ℕ, Bool, List, [], ◌∷◌, map, is_some}
+use Rattle.std.specs.Prelude.{ℕ, Bool, List, [], ◌∷◌}
 use Rattle.digest_core.specs.declared.Digest.{Digest}
 use Rattle.quorum_core.specs.declared.signer.Signer.{Signer}
 use Rattle.chain_types.specs.declared.objects.Object.{Object}
@@ -8,11 +8,10 @@ use Rattle.chain_messages.specs.declared.messages.Entry.{Entry}
 use Rattle.schedule_text.specs.declared.words.Setup.{Setup}
 use Rattle.protocol_spec.specs.Chain.Certificates.{Rules}
 use Rattle.world_spec.specs.Setting.{Trust, Setting}
-use Rattle.world_spec.specs.World as worlds
-use Rattle.world_spec.specs.World.{World, Said, Formed}
+use Rattle.world_spec.specs.World.{WorldOf, Seating, Said, Formed}
 use Rattle.world_spec.specs.Known.{Known, known_by}
 use Rattle.world_spec.specs.Terms.{Terms, rules_for, terms_of}
-use Rattle.world_spec.specs.Posts.{Post, new_posts}
+use Rattle.world_spec.specs.Posts.{Post, by_posts, new_posts}
 
 pub record Scene : Type 0 where
   -- the terms of the committee, and the objects with which epoch 0 opens
@@ -43,29 +42,41 @@ new_scene s setup = record {
 abbrev pub rules_in : (Signer → List ℕ → Digest → Bool) → Scene → Rules
 rules_in accepts sc = rules_for sc.terms accepts
 
--- A setting and a world that have what the scene has, and no records. The definitions of names, of false votes, of
--- certificates and of the sequence look at nothing else.
-abbrev pub bare_seat : Post → worlds.Seat
-bare_seat p = record { honest = p.honest; records = []; up = is_some p.standing; armed = p.armed }
-
+-- the setting of the scene; the definitions of a line look neither at the flags of members nor at the users of a setting
 abbrev pub bare_setting : Trust → Scene → Setting
 bare_setting trust sc = record {
   rules = rules_in trust.accepts sc;
-  honest = map (λ (p : Post). p.honest) sc.posts;
+  honest = [];
   opening = sc.opening;
   things = sc.known.things;
   users = [];
   seal = trust.seal;
 }
 
-abbrev pub bare_world : Scene → World
-bare_world sc = record {
+-- the scene as a world whose seats are posts: the definitions of a line take it as they take a world of records
+abbrev pub post_world : Scene → WorldOf Post
+post_world sc = record {
   sequences = sc.sequences;
   epoch = sc.epoch;
-  seats = map bare_seat sc.posts;
+  seats = sc.posts;
   said = sc.said;
   txs = sc.known.txs;
   certs = sc.certs;
   users = sc.known.users;
   drawn = sc.known.drawn;
 }
+
+-- the scene with what such a world has
+abbrev pub scene_with : Scene → WorldOf Post → Scene
+scene_with sc w = record sc {
+  known = record sc.known { txs = w.txs; users = w.users; drawn = w.drawn };
+  sequences = w.sequences;
+  epoch = w.epoch;
+  said = w.said;
+  certs = w.certs;
+  posts = w.seats;
+}
+
+-- how members stand in the scene, and the seals that they make
+abbrev pub post_seating : Trust → Scene → Seating Post
+post_seating trust sc = by_posts trust.seal (rules_in trust.accepts sc)

@@ -1,5 +1,4 @@
-use Rattle.run_law.proofs.SceneSteps.{first-shown, posts-shown, step-shown, restart-shown}
-use Rattle.run_law.proofs.SceneLines.{lines-shown, restart-lines}
+use Rattle.run_law.proofs.SceneSteps.{first-shown, lines-shown, posts-shown, restart-lines, restart-shown, step-shown}
 use Rattle.run_law.proofs.scenes.steps_of_a_world.Goals as goal
 
 pub returns : goal.returns

@@ -1,5 +1,5 @@
 use Rattle.std.proofs.Common.{◌≡◌, length}
-use Rattle.world_spec.specs.SceneSteps.{held_in}
+use Rattle.world_core.specs.Steps.{held_in}
 use Rattle.world_core.proofs.seats.digest_in.Given as goal
 
 -- what is left names what all name

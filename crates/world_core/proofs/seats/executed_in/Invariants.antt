@@ -1,5 +1,5 @@
 use Rattle.std.proofs.Common.{◌≡◌, length}
-use Rattle.world_spec.specs.SceneSteps.{says_in}
+use Rattle.world_core.specs.Steps.{says_in}
 use Rattle.world_spec.specs.Step.{executed_digest}
 use Rattle.world_core.proofs.seats.executed_in.Given as goal
 

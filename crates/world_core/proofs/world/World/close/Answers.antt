@@ -2,7 +2,8 @@ use Rattle.std.proofs.Common.{◌∙◌, ap, refl, [], ◌∷◌}
 use Rattle.report_text.specs.declared.lines.Line.TheVariants as line
 use Rattle.schedule_text.specs.declared.words.Event.TheVariants as events
 use Rattle.world_spec.specs.Scene.{Scene, rules_in}
-use Rattle.world_spec.specs.SceneSteps.{lines_in, steps_to, work_of}
+use Rattle.world_spec.specs.SceneSteps.{work_of}
+use Rattle.world_core.specs.Steps.{lines_after, scene_after}
 use Rattle.world_spec.specs.Posts.{reached_in}
 use Rattle.world_core.specs.Trusts.{trust_by}
 use Rattle.world_core.specs.declared.reply.SeatFault.TheVariants as seat_fault
@@ -12,7 +13,7 @@ use Rattle.world_core.proofs.Closing.{close_reply, close_states}
 use Rattle.world_core.proofs.world.World.close.Goals as goal
 
 pub returns-in-Err-clause-line : goal.returns-in-Err-clause-line
-unfolding work_of steps_to
+unfolding work_of scene_after
 returns-in-Err-clause-line g c =
     line_failed (trust_by (g.S.MakesSeals.made c.args.sealer.now) (g.S.Checker.accepts c.args.sealer.now)) (let v : Scene = record { terms = c.self.inside.seats.terms; opening = c.self.inside.opening; known = c.self.inside.directory; sequences = c.self.inside.order.sequences; epoch = c.self.inside.order.epoch; said = c.self.inside.said; certs = c.self.inside.certs; posts = c.self.inside.seats.posts } in v) c.args.self.now c.self.view_is (events.Close c.args.member) c.args.member closes refl refl refl (g.D.Keeper.lists c.args.keeper.now) (g.D.Keeper.lists c.call.new.keeper) c.call.new.self c.in-Err.fault c.in-Err.fault c.in-Err.ensures.served
 
@@ -21,7 +22,7 @@ returns-in-Err-clause-keeper g c =
     keeper_err c.in-Err.fault c.in-Err.ensures.keeper
 
 pub returns-in_default-clause-line : goal.returns-in_default-clause-line
-unfolding work_of steps_to
+unfolding work_of scene_after
 returns-in_default-clause-line g c =
     line_untold (trust_by (g.S.MakesSeals.made c.args.sealer.now) (g.S.Checker.accepts c.args.sealer.now)) (let v : Scene = record { terms = c.self.inside.seats.terms; opening = c.self.inside.opening; known = c.self.inside.directory; sequences = c.self.inside.order.sequences; epoch = c.self.inside.order.epoch; said = c.self.inside.said; certs = c.self.inside.certs; posts = c.self.inside.seats.posts } in v) c.args.self.now c.self.view_is (events.Close c.args.member) c.args.member closes refl refl refl (g.D.Keeper.lists c.args.keeper.now) (g.D.Keeper.lists c.call.new.keeper) c.call.new.self c.in-Ok.reply c.self.inside.said seat_fault.OutOfMemory c.in-Ok.ensures.served (refl)
 
@@ -30,7 +31,7 @@ returns-in_default-clause-keeper g c =
     keeper_none memory_none c.in-Ok.ensures.keeper
 
 pub returns-clause-line : goal.returns-clause-line
-unfolding work_of steps_to lines_in
+unfolding work_of scene_after lines_after
 returns-clause-line g c =
     line_told (trust_by (g.S.MakesSeals.made c.args.sealer.now) (g.S.Checker.accepts c.args.sealer.now)) (let v : Scene = record { terms = c.self.inside.seats.terms; opening = c.self.inside.opening; known = c.self.inside.directory; sequences = c.self.inside.order.sequences; epoch = c.self.inside.order.epoch; said = c.self.inside.said; certs = c.self.inside.certs; posts = c.self.inside.seats.posts } in v) c.args.self.now c.self.view_is (events.Close c.args.member) c.args.member closes refl refl refl (g.D.Keeper.lists c.args.keeper.now) (g.D.Keeper.lists c.call.new.keeper) c.call.new.self c.in-Ok.reply c.self.inside.said (line.Close c.args.member c.in-Ok-tell_close.text ∷ []) c.told.result c.in-Ok.ensures.served (close_states (rules_in (g.S.Checker.accepts c.args.sealer.now) (let v : Scene = record { terms = c.self.inside.seats.terms; opening = c.self.inside.opening; known = c.self.inside.directory; sequences = c.self.inside.order.sequences; epoch = c.self.inside.order.epoch; said = c.self.inside.said; certs = c.self.inside.certs; posts = c.self.inside.seats.posts } in v)) c.args.member c.self.inside.said (reached_in (rules_in (g.S.Checker.accepts c.args.sealer.now) (let v : Scene = record { terms = c.self.inside.seats.terms; opening = c.self.inside.opening; known = c.self.inside.directory; sequences = c.self.inside.order.sequences; epoch = c.self.inside.order.epoch; said = c.self.inside.said; certs = c.self.inside.certs; posts = c.self.inside.seats.posts } in v)) c.self.inside.seats.posts c.args.member closes)) (ap (λ t. line.Close c.args.member t ∷ []) (c.in-Ok-tell_close.ensures ∙ close_reply (trust_by (g.S.MakesSeals.made c.args.sealer.now) (g.S.Checker.accepts c.args.sealer.now)) (let v : Scene = record { terms = c.self.inside.seats.terms; opening = c.self.inside.opening; known = c.self.inside.directory; sequences = c.self.inside.order.sequences; epoch = c.self.inside.order.epoch; said = c.self.inside.said; certs = c.self.inside.certs; posts = c.self.inside.seats.posts } in v) c.args.member c.in-Ok.reply c.in-Ok.ensures.served.answer)) c.told.ensures.lines
 

@@ -1,7 +1,8 @@
 use Rattle.std.proofs.Common.{◌∙◌, ap, ℕ, refl}
 use Rattle.std.specs.Prelude.{min, slice_get}
 use Rattle.world_spec.specs.Scene.{Scene, rules_in}
-use Rattle.world_spec.specs.SceneSteps.{standing_at, steps_to, work_of, sees_to}
+use Rattle.world_spec.specs.SceneSteps.{standing_at, work_of, sees_to}
+use Rattle.world_core.specs.Steps.{scene_after}
 use Rattle.world_core.specs.Trusts.{trust_by}
 use Rattle.world_core.proofs.SeeLines.{down_kept, halted_kept, halted_world, taken_broken, taken_kept, taken_untold, taken_world}
 use Rattle.world_core.proofs.Sound.{on_ok}
@@ -18,7 +19,7 @@ returns-in_default-clause-kept g c =
     (g.D.Keeper.lists c.args.keeper.now) c.see_line.result
 
 pub returns-in-Some-fork-clause-world : goal.returns-in-Some-fork-clause-world
-unfolding steps_to work_of
+unfolding scene_after work_of
 returns-in-Some-fork-clause-world g c =
     on_ok _ c.match-see_halted.result
     (halted_world (trust_by (g.S.MakesSeals.made c.args.sealer.now) (g.S.Checker.accepts c.args.sealer.now)) c.args.self.now c.args.member c.args.entries c.in-Some.validator.now
@@ -72,16 +73,16 @@ returns-in-Some-fork-clause-said g c =
     unsaid_on (trust_by (g.S.MakesSeals.made c.args.sealer.now) (g.S.Checker.accepts c.args.sealer.now)) c.args.self.now (events.See c.args.member c.args.entries) c.args.self.now.said c.match-see_halted.result refl
 
 pub returns-in-Err-see_all-clause-said : goal.returns-in-Err-see_all-clause-said
-unfolding steps_to work_of
+unfolding scene_after work_of
 returns-in-Err-see_all-clause-said g c =
-    grew_as c.args.self.now.said c.see_all.new.self.said (sees_to (rules_in (g.S.Checker.accepts c.args.sealer.now) c.args.self.now) c.min-count.result c.args.self.now c.args.member).said (steps_to (trust_by (g.S.MakesSeals.made c.args.sealer.now) (g.S.Checker.accepts c.args.sealer.now)) c.args.self.now (events.See c.args.member c.args.entries)).said
+    grew_as c.args.self.now.said c.see_all.new.self.said (sees_to (rules_in (g.S.Checker.accepts c.args.sealer.now) c.args.self.now) c.min-count.result c.args.self.now c.args.member).said (scene_after (trust_by (g.S.MakesSeals.made c.args.sealer.now) (g.S.Checker.accepts c.args.sealer.now)) c.args.self.now (events.See c.args.member c.args.entries)).said
     (ap (λ (x : Scene). x.said) (taken_world (trust_by (g.S.MakesSeals.made c.args.sealer.now) (g.S.Checker.accepts c.args.sealer.now)) c.args.self.now c.args.member c.args.entries c.in-Some.validator.now
     (c.in-Some.ensures.value ∙ ap (λ (x : Scene). standing_at (slice_get x.posts c.args.member)) c.self.view_is) c.min-count.result
     (c.min-count.ensures ∙ ap (λ (n : ℕ). min c.args.entries n) c.entries_left.ensures) (sees_to (rules_in (g.S.Checker.accepts c.args.sealer.now) c.args.self.now) c.min-count.result c.args.self.now c.args.member) refl))
     c.in-Err-see_all.ensures.said
 
 pub returns-then-is_empty-clause-said : goal.returns-then-is_empty-clause-said
-unfolding steps_to work_of
+unfolding scene_after work_of
 returns-then-is_empty-clause-said g c =
     all_said_on (trust_by (g.S.MakesSeals.made c.args.sealer.now) (g.S.Checker.accepts c.args.sealer.now)) c.args.self.now (events.See c.args.member c.args.entries) c.see_all.new.self.said c.see_line-then-is_empty.result
     (ap (λ (x : Scene). x.said) (taken_world (trust_by (g.S.MakesSeals.made c.args.sealer.now) (g.S.Checker.accepts c.args.sealer.now)) c.args.self.now c.args.member c.args.entries c.in-Some.validator.now
