@@ -156,9 +156,9 @@ def end(tried):
 
 
 def answers_alike(program, status):
-    """Whether a program that was taken ends as the try's did, without words and input."""
+    """Whether a program that was taken ends as the try's did, without words and input. What it writes into its folder goes with the links."""
     try:
-        ran = subprocess.run([program], stdin=subprocess.DEVNULL, capture_output=True, timeout=60)
+        ran = subprocess.run([program], cwd=os.path.dirname(program), stdin=subprocess.DEVNULL, capture_output=True, timeout=60)
     except (OSError, subprocess.TimeoutExpired):
         return False
     return ran.returncode == status
