@@ -15,6 +15,8 @@ RATTLE = f"{KIT}/bin/rattle"
 KEPT = ["--incremental", "out/beside/kept"]
 # The folder of a crate's edits that no gate tries.
 DEAR = "must-fail-dear"
+# A line that is a comment, by the end of the file's name.
+COMMENT = {".rt": re.compile(r"(?m)^[ \t]*//.*\n?"), ".antt": re.compile(r"(?m)^[ \t]*--.*\n?")}
 
 
 def need_kit():
@@ -44,7 +46,7 @@ def tried(name):
 
 
 def sum_of_tried(top, uses, name):
-    """A checksum of a crate's expensive edits, of the crate without its tests, and of all that it stands on."""
+    """A checksum of a crate's expensive edits, and of the code of the crate and of all that it stands on."""
     total = hashlib.sha256()
     for crate in [name, *sorted(below(uses, name))]:
         total.update(f"{crate}: {' '.join(uses[crate])}\0".encode())
@@ -78,7 +80,8 @@ def unbuilt(uses, name, libraries):
 
 
 def sources(top, name, tests=False):
-    """The texts of a crate that its library is made of, by their path in it; with its tests where they are asked for."""
+    """The code that a crate's library is made of, by the path in the crate: without lines that are comments, and without tests. With
+    `tests`: the whole texts."""
     folder, found = f"{top}/crates/{name}", {}
     for part in ("src", "specs", "proofs"):
         for at, _, files in os.walk(f"{folder}/{part}"):
@@ -88,8 +91,15 @@ def sources(top, name, tests=False):
                     continue
                 with open(f"{at}/{file}", encoding="utf-8") as it:
                     text = it.read()
-                found[path] = text if tests else re.sub(r"(?m)^#\[cfg\(test\)\]\n.*\n", "", text).rstrip()
+                found[path] = text if tests else code_in(path, text)
     return found
+
+
+def code_in(path, text):
+    """A text without lines that are comments and without the module of its tests."""
+    of_this_kind = COMMENT.get(os.path.splitext(path)[1])
+    code = re.sub(r"(?m)^#\[cfg\(test\)\]\n.*\n", "", text)
+    return (of_this_kind.sub("", code) if of_this_kind else code).rstrip()
 
 
 def is_program(top, name):

@@ -1,10 +1,11 @@
-"""Tests of the program with all edits: what it tells of the functions that it calls, and which program is taken."""
+"""Tests of the program with all edits: what it tells of the functions that it calls, and which program is taken; and of the sum that is noted for edits."""
 
 import importlib.machinery
 import importlib.util
 import os
 import shutil
 import subprocess
+import sys
 import tempfile
 import types
 import unittest
@@ -28,6 +29,27 @@ def load(path):
 
 
 mutants = load(f"{TOP}/tools/mutants")
+sys.path.insert(0, f"{TOP}/tools/lib")
+import checks
+
+
+class Noted(unittest.TestCase):
+    """The sum of the code over which expensive edits were refused."""
+
+    def sum_over(self, source, spec):
+        with tempfile.TemporaryDirectory(prefix="test-tools-") as room:
+            for path, text in (("low/src/lib.rt", source), ("low/specs/Lib.antt", spec), ("high/src/lib.rt", "fn high() {}\n"), ("high/must-fail-dear/one.edit", "old: a\n")):
+                os.makedirs(os.path.dirname(f"{room}/crates/{path}"), exist_ok=True)
+                with open(f"{room}/crates/{path}", "w", encoding="utf-8") as it:
+                    it.write(text)
+            return checks.sum_of_tried(room, {"high": ["low"], "low": []}, "high")
+
+    def test_it_is_of_code_and_not_of_comments(self):
+        """A comment and a module of tests change nothing that an edit shows; a line of code does, in a source and in a definition."""
+        plain = self.sum_over("fn low() {}\n", "one = 1\n")
+        self.assertEqual(plain, self.sum_over("//! A head.\n    // a line\nfn low() {}\n#[cfg(test)]\nmod tests;\n", "-- a number\none = 1\n"))
+        self.assertNotEqual(plain, self.sum_over("fn low() { }\n", "one = 1\n"))
+        self.assertNotEqual(plain, self.sum_over("fn low() {}\n", "one = 2\n"))
 
 
 class Told(unittest.TestCase):
