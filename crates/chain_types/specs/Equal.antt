@@ -1,4 +1,4 @@
--- Tests of equality, as they compute on the names of the chain.
+-- Tests of equality of digests, ids and object keys.
 use Rattle.std.specs.Prelude.{◌==◌, ◌&&◌, Bool, bytes_eq}
 use Rattle.digest_core.specs.declared.Digest.{Digest}
 use Rattle.chain_types.specs.declared.objects.ObjectId.{ObjectId}

@@ -84,7 +84,7 @@ digest_read (Err fault) = zero_digest
 abbrev pub call_line : Setting → World → DeskEntry → Line
 call_line s w e = line.Vote 0 (tx_name w (digest_read (read_signed e.bytes))) (vote_answered s w (vote_as e.reply))
 
--- the line of a vote of member 0, in terms of the directory of names alone (no whole world)
+-- the line of a vote of member 0, in terms of the directory of names (no whole world)
 abbrev pub call_line_by : Known → DeskEntry → Line
 call_line_by k e = vote_line_by k 0 (digest_read (read_signed e.bytes)) (vote_as e.reply)
 

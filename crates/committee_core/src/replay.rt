@@ -141,7 +141,7 @@ fn write_no_member<K: Sink>(alloc: Global, member: u32, sink: &mut K) -> Result<
     write_all(sink, text.as_slice())
 }
 
-/// Writes the line that there is no such honest member. Answers the status.
+/// Writes the line that says that no honest member has the number. Answers the status.
 fn say_no_member<K: Sink>(alloc: Global, member: u32, sink: &mut K) -> u8
     ensures known { (result ≡ 5) ⊎ (result ≡ 7) ⊎ (result ≡ 8) }
     ensures written { result ≡ 8 → Appends (K.held sink.old) (K.held sink.new) (no_member_text member) }

@@ -107,7 +107,7 @@ fn holding(objects: u64, sum: u128) -> Option<Sums> {
     })
 }
 
-/// The sums of a faulty member, of one that is not there and of one that is down are not told.
+/// There are no sums of a faulty member, of one that is not there and of one that is down.
 #[test]
 fn sums_are_those_of_honest_members_that_are_up(rt: HostRuntime) {
     let seal = Some(Digest(SEAL));

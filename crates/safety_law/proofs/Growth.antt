@@ -41,7 +41,7 @@ grown-new (q ∷ old) (suc epoch) = grown-new old epoch
 grown-then : (old mid new : List (List Entry)) → Grown old mid → Grown mid new → Grown old new
 grown-then old mid new one two epoch = front_then (entries_at old epoch) (entries_at mid epoch) (entries_at new epoch) (one epoch) (two epoch)
 
--- ---- calls leave the sequences alone
+-- ---- calls do not change the sequences
 
 behind-same : (s : Setting) (w : World) (m : ℕ) (call : Call) (seat : Seat) (r : Reached) → (behind s w m call seat r).sequences ≡ w.sequences
 behind-same s w m call seat finds_down = refl

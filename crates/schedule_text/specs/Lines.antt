@@ -1,5 +1,5 @@
--- The forms of the lines: the form first, numbers taken as any digits, and then each number
--- in the range of its place. Source: this profile.
+-- The forms of the lines. The form is tested first, with any digits taken as a number; then each number must be in its
+-- range. Source: this profile.
 use Rattle.std.specs.Prelude.{◌==◌, ℕ, Bool, true, false, ◌&&◌, ◌||◌, nat_lt, List, [], ◌∷◌, length, Option, Some, None, Result, Ok, Err, min, codes, option_map, option_and_then, if◌then◌else◌}
 use Rattle.std.specs.List.{slice_split, list_all}
 use Rattle.std.specs.Str.{bytes_eq}
@@ -20,13 +20,13 @@ use Rattle.schedule_text.specs.Commands.{is_command, command_of}
 abbrev pub words_of : List ℕ → List (List ℕ)
 words_of line = slice_split (λ b. b == 32) line
 
--- a value, or the refusal that a number is bad where it is missing
+-- a value, or the refusal that a number is bad if there is none
 abbrev pub or_bad_number : {A : Type 0} → Option A → Result A Cause
 or_bad_number None = Err cause.BadNumber
 or_bad_number (Some a) = Ok a
 
--- the value of words that have the form; the refusal that the form is bad where they do not, or that a number is bad
--- where there is no value
+-- the value of words that have the form; the refusal that the form is bad if they do not have it, or that a number is
+-- bad if there is no value
 abbrev pub if_form : {A : Type 0} → Bool → Option A → Result A Cause
 if_form true value = or_bad_number value
 if_form false value = Err cause.BadForm

@@ -1,5 +1,5 @@
 -- The words for objects and references: `NAME` or `T.N`, `OBJ@V` and `OBJ@V!`.
--- `is_..` says whether a word has the form, numbers taken as any digits; `.._of` is its value,
+-- `is_..` says whether a word has the form, with any digits taken as a number; `.._of` is its value,
 -- or none if a number is bad. Source: this profile.
 use Rattle.std.specs.Prelude.{ℕ, Bool, false, ◌&&◌, List, Option, Some, None, option_map}
 use Rattle.schedule_text.specs.declared.words.ObjWord.{ObjWord}

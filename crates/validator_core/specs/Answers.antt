@@ -52,7 +52,7 @@ VotesAs epoch said (Ok d) = said ≡ Ok (vote_as epoch d)
 VotesAs epoch said (Err no_vote.OutOfMemory) = Unit {0}
 VotesAs epoch said (Err refusal) = said ≡ Err refusal
 
--- the decision alone, out of the code's triple of transaction, decision and encoded transaction
+-- only the decision, out of the code's triple of transaction, decision and encoded transaction
 abbrev pub decision_in : {B : Type 0} → Result (Transaction × DecidedVote × B) VoteRefusal → Result DecidedVote VoteRefusal
 decision_in (Ok v) = Ok v.1
 decision_in (Err refusal) = Err refusal
@@ -87,7 +87,7 @@ HoldsAs said (Err no_hold.OutOfMemory) = Unit {0}
 HoldsAs said (Err (no_hold.Fork key first second)) = ⊥
 HoldsAs said (Err refusal) = said ≡ Err refusal
 
--- the `CertificateOutcome` alone, out of the code's pair with the certificate
+-- only the `CertificateOutcome`, out of the code's pair with the certificate
 abbrev pub holding_in : Result (Certificate × CertificateOutcome) HoldRefusal → Result CertificateOutcome HoldRefusal
 holding_in (Ok h) = Ok h.1
 holding_in (Err refusal) = Err refusal

@@ -43,7 +43,7 @@ use Rattle.validator_process.proofs.Made.{never_zero, said_zero}
 
 -- ---- what a making with 0 left
 
--- what a text that makes no committee is told is not 0
+-- the answer to a text that makes no committee is not 0
 checked-line : (m : ℕ) (scene : Scene) (b : Bool) (line : StartLine) → (if b then Ok scene else Err (start.NoMember m)) ≡ Err line → line_status line ≡ 0 → ⊥
 checked-line m scene true line is nought = cc
 checked-line m scene false line is nought = let it : start.NoMember m ≡ line = cc in let e : 8 ≡ 0 = ap line_status it ∙ nought in cc
@@ -97,7 +97,7 @@ made-alone m text short p has = (made-by m text short p has).alone
 
 -- ---- what the next process finds
 
--- the record stands alone in what it reads
+-- what it reads has only this record
 next-counts : (records : List Record) (h next : History) → HoldsOnly records h → Follows h next → counted next.now.reads ≡ records
 next-counts records h next alone (inl same) = ap (λ (x : History). counted x.now.reads) same ∙ alone.reads
 next-counts records h next alone (inr (inl left, quiet)) = ap (λ (f : List ℕ). counted f) left ∙ alone.reads

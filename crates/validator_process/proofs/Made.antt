@@ -50,7 +50,7 @@ nothing_each m text told end width shut whole seen = each_whole (MayAdd m text (
 
 -- ---- the record in the file
 
--- the log had no record, so this one stands alone
+-- the log had no record, so this one is its only one
 alone-by : (told told' : Option History) (end end' : ℕ) (shut' : Bool) (bytes : List ℕ) → IfTold told (IsEmptyTo end true) → IfTold told' (λ h. AreSeen (moments h)) → AddsExactly told told' end end' (record { member = 64; bytes = bytes }) (Ok tt) → IsWhole told' end' shut'
     → IfTold told' (HoldsOnly (record { member = 64; bytes = bytes } ∷ []))
 alone-by None told' end end' shut' bytes empty seen none whole = subst (λ (t : Option History). IfTold t (HoldsOnly (record { member = 64; bytes = bytes } ∷ []))) (sym none) tt

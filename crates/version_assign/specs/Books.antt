@@ -68,7 +68,7 @@ pub record IsOpening (entries : List (ObjectId × Object)) : Type 0 where
   pub shared : (id : ObjectId) → is_shared_object (opening_object (map object_in entries) id) ≡ is_some (lookup (id_eq id) entries)
 
 -- the current version of an object after these admissions, none if no certificate has named it: that of its last
--- writer, else where the first certificate that names it says that it begins
+-- writer, else the one at which the first certificate that names it says that it begins
 abbrev pub stands : List Object → List Admitted → ObjectId → Option Standing
 stands opening admitted id =
     first_some

@@ -1,5 +1,5 @@
--- Choices (BCS: an enum is its variant number and its fields). Row 6 of the table of faults: there is no
--- case of the number; its place is that of the number.
+-- Choices (BCS: an enum is its variant number and its fields). Fault 6: no variant has the number; the fault is at the
+-- number.
 use Rattle.std.specs.Prelude.{◌≡◌, ℕ, suc, ◌^◌, ◌<◌, ◌≤◌, true, false, ltb, ◌==◌, ◌⊎◌, if◌then◌else◌, List, ◌++◌, length, Ok, refl}
 use Rattle.std.proofs.Common.{sym, ◌∙◌, ap, subst, inl, inr, arith, append_assoc}
 use Rattle.std.proofs.lemmas.Bool.{eqb-true, eq-eqb, ne_eqb, ltb-true}

@@ -1,4 +1,4 @@
--- A whole value: its encoding and nothing after it. Row 7 of the table of faults: bytes are left.
+-- A whole value: its encoding and nothing after it. Fault 7: bytes are left over.
 use Rattle.std.specs.Prelude.{◌≡◌, ℕ, ◌==◌, if◌then◌else◌, List, [], ◌++◌, length, Result, Ok, refl}
 use Rattle.std.proofs.Common.{sym, ◌∙◌, ap, subst, inl, inr}
 use Rattle.std.proofs.lemmas.Bool.{eqb-true}

@@ -1,5 +1,5 @@
--- The report's words for Ends, turns and acknowledgements, in terms of the directory of names alone (the source has no
--- whole world at hand where it words them).
+-- The report's words for Ends, turns and acknowledgements, in terms of the directory of names (the code has no whole
+-- world at hand when it words them).
 use Rattle.std.specs.Prelude.{ℕ, Bool, List, [], ◌∷◌, Option, Some, None, Result}
 use Rattle.digest_core.specs.declared.Digest.{Digest}
 use Rattle.protocol_spec.specs.Chain.Certificates.{Rules}

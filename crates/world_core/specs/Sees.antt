@@ -1,4 +1,4 @@
--- The report's words for entries, in terms of the directory of names alone; and what a `see` line has done so far.
+-- The report's words for entries, in terms of the directory of names; and what a `see` line has done so far.
 use Rattle.std.specs.Prelude.{◌≡◌, ◌+◌, ℕ, false, List, [], ◌∷◌, ◌++◌, length, slice_get, Option, None, option_and_then, option_map, Result, Ok, Err, if◌then◌else◌}
 use Rattle.chain_messages.specs.declared.messages.Entry.{Entry}
 use Rattle.chain_messages.specs.declared.messages.Statement.{Statement}

@@ -67,7 +67,7 @@ pub record StepAfter (trust : Trust) (old : Scene) (e : Event) (new : Scene) (be
   pub said : OnErr result (GrowsToward old.said new.said (steps_to trust old e).said)
   pub bad : (m place : ℕ) → IsErrOf result (fault.BadRecord m place) → is_restart e ≡ true
 
--- the outcome of a line by the outcome of its call; and of one that touches no record, and fails for want of memory only
+-- the outcome of a line by the outcome of its call; and of one that touches no record, and fails only if memory is refused
 abbrev pub call_outcome : Result (List Line) SeatFault → Result (List Line) WorldFault
 call_outcome (Ok lines) = Ok lines
 call_outcome (Err seat_fault.KeepFault) = Err fault.KeepFault

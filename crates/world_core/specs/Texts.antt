@@ -1,4 +1,4 @@
--- The report's words for a member's reply, in terms of the directory of names alone (no whole world).
+-- The report's words for a member's reply, in terms of the directory of names (no whole world).
 use Rattle.std.specs.Prelude.{ℕ, Bool, List, [], ◌∷◌, Option, Some, None, Result}
 use Rattle.report_text.specs.declared.lines.Line.{Line}
 use Rattle.report_text.specs.declared.lines.Line.TheVariants as line

@@ -26,7 +26,7 @@ vote_key_eq a b = (a.member == b.member) && (a.epoch == b.epoch) && digest_eq a.
 abbrev pub ack_key_eq : AckKey → AckKey → Bool
 ack_key_eq a b = (a.member == b.member) && (a.epoch == b.epoch) && digest_eq a.tx b.tx
 
--- the key under which a member's statement stands in the table of votes, of Ends (the member alone), and of
+-- the key under which a member's statement stands in the table of votes, of Ends (only the member), and of
 -- acknowledgements; none if it is not such a statement
 abbrev pub key_of_vote : ℕ → Statement → Option VoteKey
 key_of_vote m (statement.Vote epoch tx origins) = Some (vote_key m epoch tx)

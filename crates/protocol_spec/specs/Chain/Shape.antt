@@ -1,4 +1,4 @@
--- The shape of a transaction: the faults 1 to 12, the least that applies. Source: Sui documentation
+-- The shape of a transaction: the faults 1 to 12, of which the least that applies is the answer. Source: Sui documentation
 -- (programmable transaction blocks); the limits are this profile's own.
 use Rattle.std.specs.Prelude.{ℕ, ◌+◌, ◌-◌, ◌*◌, Bool, true, false, ◌||◌, ◌==◌, nat_lt, nat_le, List, [], ◌∷◌, ◌++◌, length, Option}
 use Rattle.std.specs.List.{list_any, enumerate_from}
