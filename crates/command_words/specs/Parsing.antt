@@ -10,7 +10,7 @@ bare name = record {
   subs = [];
 }
 
--- a word that has to be there
+-- a required word
 abbrev pub needed : List ℕ → Rule
 needed id = record (new_rule id) { required = true }
 

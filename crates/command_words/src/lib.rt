@@ -1,8 +1,8 @@
 //! The words of the program's commands.
 //!
-//! [`command_of`] says which command the words are; [`is_parsed`] whether the `clap` crate takes them, as it does all
-//! that are a command, for which it needs memory. [`place_of`] finds the path of a journal file in them.
-//! [`read_numbers`] reads a word that is a list of numbers.
+//! [`command_of`] says which command the words are; [`is_parsed`] says whether the `clap` crate takes them, as it does
+//! every command; it needs memory for that. [`place_of`] finds the path of a journal file in them. [`read_numbers`]
+//! reads a word that is a list of numbers.
 #![tactic(auto)]
 
 mod check_words;

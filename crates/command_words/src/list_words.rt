@@ -6,7 +6,7 @@ ghost use Rattle.command_words.specs.ListWords.{numbers_in};
 
 use schedule_text::{cut_part, number_in};
 
-/// The most numbers of a word.
+/// The most numbers in a word.
 const MOST_NUMBERS: usize = 64;
 
 /// The number from `low` to `high` that the part denotes.

@@ -22,7 +22,7 @@ fn bare<'a>(alloc: Global, name: &'a str) -> Command<'a>
         .disable_help_subcommand(true)
 }
 
-/// A word that has to be there.
+/// A required word.
 fn needed<'a>(alloc: Global, id: &'a str) -> Arg<'a>
     ensures rule { rule_of result ≡ needed id.entry.now }
     ensures local { result.global ≡ false }

@@ -1,7 +1,7 @@
-//! `committee run` reads a schedule from standard input, runs it, and writes the report. `make N` makes one of N
-//! transactions and sums its run up, `replay M` starts member M from records that were kept, `check`, `follow` and `desk`
-//! are a client, a follower and callers of a vote desk. After a command `in FILE` keeps the records in a file, and not in
-//! memory only.
+//! `committee run` reads a schedule from standard input, runs it, and writes the report. `make N` makes a schedule of N
+//! transactions and summarizes its run, `replay M` starts member M from records that were kept, `check`, `follow` and
+//! `desk` are a client, a follower and callers of a vote desk. After a command, `in FILE` keeps the records in a file,
+//! and not only in memory.
 //!
 //! [`committee_core::committee`] is the program over any source, sink and keeper, and [`committee_core::committee_in`] over
 //! a journal file; their clauses are what is promised. `main` hands it the real standard streams, and a keeper in memory or
@@ -66,8 +66,8 @@ fn in_memory<R: Threads + Wait + Sync, S: Source, K: Sink>(
     committee(threads, rt.alloc(), words, source, sink, &mut keeper)
 }
 
-/// Whether a command makes the file that it names. `replay` reads what was kept, so a path at which nothing stands is a
-/// mistake there.
+/// Whether a command creates a missing file that it names. `replay` reads what was kept, so for it a missing file is a
+/// mistake.
 fn if_missing(command: &[String]) -> Missing {
     if names_replay(command) {
         return Missing::IsRefused;
@@ -103,8 +103,8 @@ fn in_file<R: Threads + Wait + Sync, S: Source, K: Sink>(
     status
 }
 
-/// Runs the words over the standard streams, with threads of `threads`. A report that was taken and could not be handed
-/// on is a write fault.
+/// Runs the words over the standard streams, with threads of `threads`. If a report was taken but could not be handed
+/// on, that is a write fault.
 fn status_of<R: Threads + Wait + Sync>(threads: &R, rt: &HostRuntime) -> u8 {
     let words = match words_of(rt) {
         Ok(words) => words,

@@ -40,7 +40,7 @@ module _ (first lists : Journals) (m : ℕ) (bytes : List ℕ) (lt : m < length 
   abbrev more : Journals
   more = with_record lists m bytes
 
-  -- the lists are others than those of before
+  -- the lists differ from those before the call
   changed : more ≡ first → ⊥
   changed same =
       let size : length (journal_of more m) ≡ length (journal_of first m) = ap (λ (l : Journals). length (journal_of l m)) same in

@@ -167,7 +167,7 @@ module _ (words : List (List ℕ)) (old told told' : Option History) (end : ℕ)
       fits (inl replays) = inl replays
       fits (inr nothing) = inr (counted-none words old told end opened nothing)
 
-  -- the one or the other
+  -- how the program ends over a log that was opened: its records are refused, or the command ran over it
   pub opened_ends : Opened old told end most_members → Unchanged old told → lists ≡ kept_in old → first ≤ faults → EndsOverLog words told told' end AtLog Last status → EndsInFile words old told' First Last status
   opened_ends opened stays same later (inl full) = uncalled_full opened stays full
   opened_ends opened stays same later (inr (may, over)) = called opened same later may over

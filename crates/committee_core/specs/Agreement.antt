@@ -10,16 +10,15 @@ use Rattle.world_core.specs.Looks.{checkpoint_at}
 use Rattle.committee_core.specs.declared.agreement.Agreement.{Agreement}
 use Rattle.committee_core.specs.declared.agreement.Agreement.TheVariants as agreement
 
--- an honest member that is up has built a checkpoint with the number of this place, and it is another one than the
--- link's
+-- an honest member that is up has built a checkpoint with the number of this place that differs from the link's
 abbrev pub Differs : List Post → ℕ → Link → ℕ → Type 0
 Differs posts place l m = (c : Checkpoint) × (checkpoint_at (slice_get posts m) place ≡ Some c) × (c ≡ l.checkpoint → ⊥)
 
--- no member has built another checkpoint than the link at this place, if there is a link there
+-- no member has built a checkpoint that differs from the link's at this place, if there is a link there
 abbrev pub NoneDiffers : List Post → List Link → ℕ → Type 0
 NoneDiffers posts links place = (l : Link) → slice_get links place ≡ Some l → (m : ℕ) → Differs posts place l m → ⊥
 
--- this is the lowest member that has built another checkpoint than the link at this place
+-- this is the lowest member that has built a checkpoint that differs from the link's at this place
 pub record IsLowest (posts : List Post) (links : List Link) (place member : ℕ) : Type 0 where
   pub link : Link
   pub there : slice_get links place ≡ Some link

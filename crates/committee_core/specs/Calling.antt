@@ -63,7 +63,7 @@ abbrev pub HasMetFault : ℕ → ℕ → Option Unfinished → Type 0
 HasMetFault opened faults None = Unit {0}
 HasMetFault opened faults (Some u) = Rose opened faults
 
--- each observable list is at least as long as at the begin of the call
+-- each observable list is at least as long as at the beginning of the call
 abbrev pub HasGrown : Option Journals → Option Journals → Type 0
 HasGrown None now = now ≡ None
 HasGrown (Some begun) None = Unit {0}

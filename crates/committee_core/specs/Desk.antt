@@ -1,5 +1,5 @@
--- What the program promises of `desk N`: N callers ask member 0 of the schedule's set-up for its votes, each for the transactions of
--- its `tx` lines, and one history of their calls is written.
+-- What the program promises of `desk N`: N callers ask member 0 of the schedule's set-up for its votes, each for the
+-- transactions of its `tx` lines, and one history of their calls is written.
 use Rattle.std.specs.Prelude.{◌≡◌, ◌⊎◌, ℕ, Bool, true, false, List, [], ◌∷◌, ◌++◌, Option, Some, Result, Ok, Err, codes, decimal, length, map, replicate}
 use Rattle.std.specs.List.{flat_map, list_all}
 use Rattle.std.specs.Io.KnownBytes.{Appends, Keeps}
@@ -63,11 +63,13 @@ signed_bytes t = transactions.signed.spell t.signed
 
 -- ---- the history
 
--- member 0 as the set-up has it, behind a desk over the seals that are accepted and a keeper in memory with an empty list for each of 64 members
+-- member 0 as the set-up has it, behind a desk over the seals that are accepted and a keeper in memory with an empty
+-- list for each of 64 members
 abbrev pub desk_opening : Trust → Schedule → DeskView Accepts
 desk_opening trust s = standing (seat_at (terms_of (setting_in trust s).rules) 0 (fresh (setting_in trust s).opening)) trust.accepts 0 (Some (replicate 64 []))
 
--- a history of the desk: this many callers ask, in turns, for the transactions of the lines. Each is answered, as one member answers them one after the other
+-- a history of the desk: this many callers ask, in turns, for the transactions of the lines. Each call is answered as
+-- if one member answered the calls one after the other
 pub record AreVotes (trust : Trust) (callers : ℕ) (s : Schedule) (entries : List DeskEntry) : Type 0 where
   pub legal : IsLegal FollowsUnder (desk_opening trust s) entries
   pub made : AreMadeBy callers (map signed_bytes (desk_world trust s).txs) (asked_in entries)

@@ -1,5 +1,5 @@
--- What the program promises of each command: a relation between what source, sink and keeper show and count before and after it,
--- and the status.
+-- What the program promises of each command: a relation between what source, sink and keeper show and count before and
+-- after it, and the status.
 use Rattle.std.specs.Prelude.{◌≡◌, ◌⊎◌, ℕ, List, Option, Some, None}
 use Rattle.std.specs.Io.KnownBytes.{Keeps}
 use Rattle.digest_core.specs.declared.Digest.{Digest}

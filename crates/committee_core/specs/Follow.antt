@@ -1,5 +1,6 @@
--- What the program promises of `follow M`: it runs the schedule and writes no report; then a follower that opens with the objects
--- of the set-up takes the checkpoints that member M built in the epochs before its own, and one line says how far it got.
+-- What the program promises of `follow M`: it runs the schedule and writes no report; then a follower that opens with
+-- the objects of the set-up takes the checkpoints that member M built in the epochs before its own, and one line says
+-- how far it got.
 use Rattle.std.specs.Prelude.{◌≡◌, ◌⊎◌, ℕ, Bool, true, false, List, [], ◌∷◌, ◌++◌, length, Option, None, Some, Result, Ok, Err, option_map, slice_get, codes, decimal, if◌then◌else◌}
 use Rattle.std.specs.FinMap.{values}
 use Rattle.std.specs.Io.KnownBytes.{Appends, Keeps}

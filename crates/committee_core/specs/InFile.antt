@@ -32,8 +32,8 @@ most_members = 64
 abbrev pub AreOfMembers : Option History → Type 0
 AreOfMembers told = IfTold told (λ h. bad_member most_members 0 (counted h.now.reads) ≡ None)
 
--- why a journal is refused, with the line that says so: the member of some record that counts is not one of 64, and the gate of
--- the first such record is named; or a record counts, and the words do not replay
+-- why a journal is refused, with the line that says so: the member of some record that counts is not one of 64, and the
+-- line names the gate of the first such record; or a record counts, and the words do not replay
 pub data IsRefusedBy (words : List (List ℕ)) (told : Option History) : List ℕ → Type 0 where
   bad_member_at : (at : ℕ) → IfTold told (λ h. bad_member most_members 0 (counted h.now.reads) ≡ Some at) → IsRefusedBy words told (bad_member_text at)
   is_not_empty : names_replay words ≡ false → AreOfMembers told → IfTold told (λ h. counted h.now.reads ≡ [] → ⊥) → IsRefusedBy words told not_empty_text

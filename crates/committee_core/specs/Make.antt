@@ -1,5 +1,5 @@
--- What the program promises of `make N`: it runs the generator's schedule of N transactions, whose late member runs on 4 workers,
--- and writes one line, the summary.
+-- What the program promises of `make N`: it runs the generator's schedule of N transactions, whose late member runs on
+-- 4 workers, and writes one line, the summary.
 use Rattle.std.specs.Prelude.{◌≡◌, ◌⊎◌, ℕ, List, Option, Some, Ok, slice_get}
 use Rattle.std.specs.Io.KnownBytes.{Appends}
 use Rattle.outside.specs.Causes.{Rose}

@@ -20,14 +20,16 @@ use std::alloc::Global;
 use wire_bcs::OutOfMemory;
 use world_core::World;
 
-/// What a chain is beside a world: refused, or certified, and then equal to what the world's members built or not.
+/// How a chain compares with a world: it is refused, or it is certified, and then agrees with what the world's members
+/// built or not.
 #[derive(Clone, Copy, Debug, PartialEq, Eq)]
 pub enum Agreement {
     /// It is not certified.
     Refused(ChainRefusal),
-    /// No honest member that is up has built another checkpoint under the number of one of its links.
+    /// For no link has an honest member that is up built a different checkpoint under the link's number.
     Agrees,
-    /// The first link, counted from 0, under whose number such a member has built another, and the lowest such member.
+    /// The first link, counted from 0, under whose number such a member has built a different one, and the lowest such
+    /// member.
     Differs { place: u64, member: u32 },
 }
 

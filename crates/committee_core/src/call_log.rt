@@ -149,7 +149,8 @@ fn count_of<F: Disk>(log: &DiskLog<F>, unfinished: &Option<Unfinished>, member: 
     count_with(unfinished, member, log.count(member))
 }
 
-/// Appends a record to a log, unless an append met a fault of the disk before. If this one does, it is unfinished.
+/// Appends a record to a log, unless an earlier append met a fault of the disk. If this append does, its record is
+/// unfinished.
 fn append_to<F: Disk>(
     alloc: Global,
     log: &mut DiskLog<F>,

@@ -104,7 +104,7 @@ fn signed_digest(alloc: Global, bytes: &[u8]) -> Result<Digest, OutOfMemory>
     }
 }
 
-/// Adds the line of a call, two spaces in.
+/// Adds the line of a call, indented by two spaces.
 fn print_call(
     alloc: Global,
     world: &World,

@@ -128,7 +128,7 @@ fn obey_over<R: Threads + Wait + Sync, S: Source, K: Sink, F: Disk, O: Opening>(
     (status, log.into_disk())
 }
 
-/// Runs the program with an open log as its keeper, unless the log has records and the words are no `replay`. Gives
+/// Runs the program with an open log as its keeper, unless the log has records and the words are not a `replay`. Gives
 /// the status, and the disk back.
 #[tactic(auto, using(crate::proofs::InFiles::begins_replay, crate::proofs::InFiles::begins_where_empty, crate::proofs::InFiles::no_records, crate::proofs::InFiles::some_records))]
 fn over_log<R: Threads + Wait + Sync, S: Source, K: Sink, F: Disk>(
@@ -163,13 +163,12 @@ fn over_log<R: Threads + Wait + Sync, S: Source, K: Sink, F: Disk>(
 /// | 5, 7 | only if the sink's count of faults rose, or if out of memory | a prefix of such a line |
 /// | 6 | only if the disk's count of faults rose in the opening | nothing |
 ///
-/// Under these the records that count are those of before. Else the status is that of [`committee`],
-/// with all that its clauses say of the keeper's lists and its count of faults said of the lists of
-/// the records that count and of the disk's count. So 6 comes only if the disk's count of faults
-/// rose, or a record read back is bad; a log that has no room answers 7. The file then holds those
-/// records; only if that count rose in this call, it may hold one more. Whatever
-/// it holds, the command may have ended so with it: after a run that broke off, each of its lists is a prefix of its
-/// member's journal, so the one more is the record that was due then.
+/// With these, the records that count are those of before. With any other end, the status is that of [`committee`], and
+/// all that its clauses say of the keeper's lists and its count of faults holds of the lists of the records that count
+/// and of the disk's count. So 6 comes only if the disk's count of faults rose, or a record read back is bad; a log
+/// that has no room answers 7. The file then holds those records; only if that count rose in this call, it may hold one
+/// more. Whichever it holds, the command may have ended in this way with that file: after a run that broke off, each of
+/// its lists is a prefix of its member's journal, so the one more is the record that was due then.
 #[tactic(auto, using(crate::proofs::Calling::calling_opened))]
 pub fn committee_in<R: Threads + Wait + Sync, S: Source, K: Sink, F: Disk>(
     rt: &R,

@@ -1,8 +1,9 @@
-//! The program `committee` over any source, sink and keeper: its six commands, from the bytes read to the bytes written.
+//! The program `committee` over any source, sink and keeper: its six commands, from the bytes read to the bytes
+//! written.
 //!
 //! The clauses of [`committee`] are what is promised. [`fresh_keeper`] is a keeper in memory for its members.
-//! [`committee_in`] is the program over a journal file. [`world_behind`] runs a schedule with no report. [`agrees`] holds a
-//! chain that a client checked to the members of a world.
+//! [`committee_in`] is the program over a journal file. [`world_behind`] runs a schedule with no report. [`agrees`]
+//! compares a chain that a client checked with what the members of a world built.
 #![tactic(auto)]
 
 mod agreement;

@@ -25,7 +25,7 @@ use std::thread::Threads;
 use wire_bcs::OutOfMemory;
 use world_core::{Sums, World};
 
-/// On how many workers the late member runs.
+/// The number of workers on which the late member runs.
 const WORKERS: u32 = 4;
 
 /// Why the run of a generated schedule has no summary.

@@ -31,8 +31,8 @@ fn has_risen(before: u64, now: u64) -> bool
     before.saturating_add(1) <= now
 }
 
-/// Runs the events in order, from the world of the set-up on; the memory of each is given back once it ran. If the keeper's count of faults rose, the run is not whole,
-/// whatever its lines say.
+/// Runs the events in order, from the world of the set-up on; the memory of each is given back once it ran. If the
+/// keeper's count of faults rose, the run is not reported as whole, even if every event ran.
 #[tactic(auto, using(crate::proofs::Whole::whole_cut))]
 fn run_events<R: Threads + Sync, S: MakesSeals, K: Sink, D: Keeper>(
     rt: &R,
@@ -62,7 +62,7 @@ fn run_events<R: Threads + Sync, S: MakesSeals, K: Sink, D: Keeper>(
     let before = keeper.faults();
     for event in schedule.events.into_vec() {
         let ran = run_event(rt, alloc, world, &event, sealer, sink, keeper);
-        // Let go by name: an event that is dropped in place has the drop of all its forms proved here.
+        // Dropped by name: if the event were dropped in place, the drop of all its forms would be proved here.
         drop(event);
         ran?;
     }
@@ -172,7 +172,7 @@ pub(crate) fn run_schedule<R: Threads + Sync, S: MakesSeals, K: Sink, D: Keeper>
     ensures kept_later { D.failed keeper.old ≤ D.failed keeper.new }
     ensures keep_fault { IsErrOf result stop.KeepFault → Rose (D.failed keeper.old) (D.failed keeper.new) }
 {
-    // observable lists are as many as the keeper has
+    // there are as many observable lists as the keeper has
     let _ = keeper.members();
     match open_to_run(alloc, &schedule, sealer, waits) {
         Ok(mut world) => match run_events(rt, alloc, &mut world, schedule, sealer, sink, keeper) {

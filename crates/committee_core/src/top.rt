@@ -21,7 +21,7 @@ use std::sync::Wait;
 use std::thread::Threads;
 
 /// Runs the program: does what the words say, over a keeper with a list for each of 64 members. If the words run
-/// events, it has no record if it shows its lists. Answers the status.
+/// events, a keeper that shows its lists must have no record at the start. Answers the status.
 ///
 /// `run`: runs the schedule that the source holds.
 ///
@@ -34,8 +34,8 @@ use std::thread::Threads;
 /// | 6 | only if the keeper's count of faults rose, or a record read back is bad | a prefix of the report, and after a bad record `restart M: bad record PLACE` |
 /// | 7 | (in no clause) if out of memory | as at 5 |
 ///
-/// A keeper that shows its lists never gives a bad record. Of the report over one that does not, nothing
-/// is said after the first restart.
+/// A keeper that shows its lists never gives a bad record. If a keeper does not show them, nothing is said of the
+/// report after the first restart.
 ///
 /// `make N`, for N from 1 to 10,000: runs the generator's schedule of N transactions, whose late member runs on 4
 /// workers, and writes `make N: transactions A checkpoints B objects C sum D`: the transactions in the checkpoints that
@@ -76,9 +76,10 @@ use std::thread::Threads;
 ///
 /// Under the run assumptions, if `tx` lines made all transactions, `stuck`, `differs` and `unequal` never come.
 ///
-/// `desk N`, for N from 1 to 16: puts member 0 of the set-up of the schedule that the source holds, whose events are all
-/// `tx`, behind a vote desk, and lets N callers, each in a thread of its own, ask it for its votes. A caller asks for the
-/// transactions whose places have its number as the remainder by N, in order. It leaves the keeper's lists.
+/// `desk N`, for N from 1 to 16: puts member 0 of the set-up of the schedule that the source holds, whose events are
+/// all `tx`, behind a vote desk, and lets N callers, each in a thread of its own, ask it for its votes. A caller asks,
+/// in order, for the transactions whose places leave its number as the remainder on division by N. The keeper's lists
+/// stay as they are.
 ///
 /// | Status | Comes | Written |
 /// |---|---|---|
@@ -90,7 +91,7 @@ use std::thread::Threads;
 /// | 8 | only if an event is not a `tx` line, or member 0 is not honest, and the line was written | `desk: only tx lines`, else `desk: no honest member` |
 ///
 /// `replay M`, for M from 0 to 63: starts member M of the set-up of the schedule that the source holds, whose events do
-/// not run, from the records that the keeper has. It leaves the keeper's lists.
+/// not run, from the records that the keeper has. The keeper's lists stay as they are.
 ///
 /// | Status | Comes | Written |
 /// |---|---|---|

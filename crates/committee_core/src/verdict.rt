@@ -34,8 +34,8 @@ pub(crate) enum Verdict {
     },
     /// The follower's live objects are not those with which the member opened its epoch.
     Unequal,
-    /// The follower's live objects are those: this many checkpoints of the epochs before this one, and this many
-    /// objects.
+    /// The follower's live objects are those with which the member opened its epoch: the number of checkpoints that
+    /// were taken, the member's epoch, and the number of these objects.
     Equal {
         checkpoints: u64,
         epoch: u64,

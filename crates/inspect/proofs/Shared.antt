@@ -1,4 +1,4 @@
--- Certificates that share a version with none of the others are left out, and no line goes.
+-- Leaving out the certificates that share a version with none of the others loses no line.
 use Rattle.std.proofs.Common.{◌≡◌, ◌∙◌, ◌⊎◌, inl, inr, ℕ, Bool, true, false, cond, List, [], ◌∷◌, ◌++◌, filter, fold, Option, Some, None, is_some, refl, sym, ap, subst}
 use Rattle.std.specs.List.{flat_map, list_any}
 use Rattle.indexmap.specs.IndexMap.{insert_entry}

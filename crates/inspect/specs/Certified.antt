@@ -1,5 +1,5 @@
--- The certificates of a run that are held against each other. Source: Sui Lutris (which certificates are valid); which of them and in
--- which order is this profile's own.
+-- The certificates of a run that are compared with each other. Source: Sui Lutris (which certificates are valid); which
+-- of them and in which order is this profile's own.
 use Rattle.std.specs.Prelude.{ℕ, Bool, not, bytes_eq, List, [], ◌∷◌, ◌++◌, fold, is_some, Option, Some, None, if◌then◌else◌}
 use Rattle.std.specs.List.{flat_map, list_any}
 use Rattle.chain_messages.specs.Messages as messages

@@ -1,5 +1,5 @@
--- What the program promises of each question: a relation between what source, sink and keeper show and count before and after it,
--- and the status.
+-- What the program promises of each question: a relation between what source, sink and keeper show and count before and
+-- after it, and the status.
 use Rattle.std.specs.Prelude.{◌≡◌, ◌⊎◌, ℕ, List, Option, Some, None, Result, Ok, Err, length}
 use Rattle.std.specs.Io.KnownBytes.{Appends, Keeps}
 use Rattle.outside.specs.Causes.{Rose}
@@ -73,7 +73,7 @@ MeetsBad text kept = (s : Schedule) × (schedule_of text ≡ Ok s) × MeetsBadRe
 abbrev pub Refuses : List ℕ → Option (List ℕ) → Option (List ℕ) → Option Journals → Option Journals → Type 0
 Refuses text held held' kept kept' = (r : Refused) × (schedule_of text ≡ Err r) × Appends held held' (refusal_text r) × KeepsJournals kept kept'
 
--- the source was read, to its end or to one byte past the limit, and this is so of the bytes
+-- the source was read, to its end or to one byte past the limit, and `Is` holds of the bytes
 pub record OfText (Is : List ℕ → Type 0) (left left' : Option (List ℕ)) : Type 0 where
   pub text : List ℕ
   pub read : ReadsText longest_text left left' text

@@ -1,4 +1,5 @@
--- What the code keeps beside certificates: each of them can be encoded, and its encoding is a name.
+-- What the code keeps beside certificates: each of them can be encoded, and its encoding is the name that stands for
+-- it.
 use Rattle.std.specs.Prelude.{◌≡◌, ℕ, true, List, is_some}
 use Rattle.chain_messages.specs.Messages as messages
 use Rattle.chain_messages.specs.declared.messages.Certificate.{Certificate}
@@ -13,7 +14,7 @@ pub record IsSound (stakes : List ℕ) (c : Certificate) : Type 0 where
   pub short : messages.certificate.short c
   pub roll : is_roll stakes (members_of c) ≡ true
 
--- each of the certificates is sound, and the names are what they are encoded as
+-- each of the certificates is sound, and the names are their encodings
 pub record AreFound (stakes : List ℕ) (certs : List Certificate) (spelled : Named (Unit {0})) : Type 0 where
   pub sound : Each (IsSound stakes) certs
   pub names : (c : Certificate) → is_some (named spelled (messages.certificate.spell c)) ≡ is_there certs c

@@ -49,7 +49,7 @@ abbrev pub state_text : Known → ℕ → Bool → Option Member → List ℕ
 state_text k n honest None = absent_text n honest
 state_text k n honest (Some m) = standing_text k n m
 
--- the lines of all members; `crew` says whether each is honest, the first of it for member `n`
+-- the lines of all members, numbered from `n`; `crew` says whether each is honest
 abbrev pub states_text : Known → States → ℕ → List Bool → List ℕ
 states_text k states n crew = concat (placed (λ m honest. state_text k m honest (states m)) n crew)
 

@@ -41,6 +41,6 @@ states_in (name ∷ []) = if bytes_eq name (codes "states") then Some question.S
 states_in (name ∷ line ∷ []) = if bytes_eq name (codes "states") then option_map question.StatesAt (number_in 1 16777216 line) else None
 states_in words = None
 
--- the question that the words are, none if they are none
+-- the question that the words ask; none if they ask none
 unfoldable pub question_in : List (List ℕ) → Option Question
 question_in words = first_some (chain_in words ∷ digests_in words ∷ blame_in words ∷ states_in words ∷ [])

@@ -10,7 +10,7 @@ use std::alloc::Global;
 use validator_core::Validator;
 use wire_bcs::{Duplicate, OutOfMemory, Seq};
 
-/// Lists of this many items have no encoding.
+/// Lists of this many items or more have no encoding.
 const TOO_LONG: u64 = 2_147_483_648;
 
 /// A copy of a checkpoint that can be encoded. One of more than 2147483647 items counts as running out of memory.

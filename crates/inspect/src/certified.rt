@@ -17,7 +17,7 @@ use std::alloc::Global;
 use tables::NameMap;
 use wire_bcs::{Duplicate, OutOfMemory, Seq, Unread};
 
-/// Certificates, and what each of them is encoded as.
+/// Certificates, and the encoding of each.
 #[derive(Drop)]
 pub(crate) struct Found {
     pub(crate) certs: Seq<Certificate>,
@@ -69,7 +69,7 @@ impl Found {
         }
     }
 
-    /// Adds a certificate, if it is valid and none is there that is encoded alike.
+    /// Adds a certificate, if it is valid and none with the same encoding is there.
     pub(crate) fn add<S: Sealer>(
         &mut self,
         alloc: Global,

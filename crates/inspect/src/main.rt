@@ -84,8 +84,8 @@ fn in_memory<R: Threads + Sync, S: Source, K: Sink>(
     inspect(threads, rt.alloc(), words, source, sink, &mut keeper)
 }
 
-/// Runs the words over the standard streams, with threads of `threads`. Bytes that were taken and could not be handed on
-/// are a write fault.
+/// Runs the words over the standard streams, with threads of `threads`. If bytes were taken but could not be handed on,
+/// that is a write fault.
 fn status_of<R: Threads + Sync>(threads: &R, rt: &HostRuntime) -> u8 {
     let words = match words_of(rt) {
         Ok(words) => words,

@@ -47,7 +47,7 @@ impl MemberList {
         })
     }
 
-    /// The members, lent. Takes no memory.
+    /// The members, borrowed. Takes no memory.
     pub fn as_slice(&self) -> &[u32]
         ensures value { result.now ≡ self.now }
         ensures few { length result.now ≤ 64 }

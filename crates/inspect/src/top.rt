@@ -14,9 +14,9 @@ use outside::{Keeper, Sink, Source};
 use std::alloc::Global;
 use std::thread::Threads;
 
-/// Runs the program: reads a schedule from the source, runs it under the seals of `committee` with no report, over a keeper
-/// with a list for each of 64 members that has no record when it shows its lists, and writes what the words ask of the
-/// world after it. Answers the status.
+/// Runs the program: reads a schedule from the source, runs it under the seals of `committee` with no report, over a
+/// keeper with a list for each of 64 members, and writes what the words ask of the world after it. A keeper that shows
+/// its lists must have no record at the start. Answers the status.
 ///
 /// `chain M MEMBERS`, for M from 0 to 63 and members from 0 to 63, joined by commas, each above the one before it: the
 /// chain of the checkpoints that member M built, over all epochs, each under a seal of each of the members, as
@@ -44,8 +44,8 @@ use std::thread::Threads;
 /// | 7 | (in no clause) if out of memory | as at 5 |
 /// | 8 | for `chain`, only if all events ran, and there is no such member M, or else one of the members has not built a checkpoint that M has; for `states L`, only if all events ran, and there are fewer lines | `inspect chain M: no honest member that is up`, or `inspect chain M: no seal of member K on checkpoint N` for the first such member and its first such checkpoint; `inspect states L: no such line`; each observable list is its member's journal |
 ///
-/// A keeper that shows its lists never gives a bad record. For a run over one that does not, and that restarts a member, it
-/// is not said what is written.
+/// A keeper that shows its lists never gives a bad record. If a keeper does not show them and the run restarts a
+/// member, nothing is said of what is written.
 ///
 /// Status 2 comes exactly if the words ask nothing: nothing is read, written or kept then.
 pub fn inspect<R: Threads + Sync, S: Source, K: Sink, D: Keeper>(

@@ -77,7 +77,7 @@ still_posts trust old new (Some m) (inr more) = ap (λ (x : Still). x.posts) mor
 pub quiet_line : (trust : Trust) (r : Rules) (sc new : Scene) (m : Option ℕ) (work : Work) (told : Option Journals) → SeenCut still_in trust sc m new → LineCut r sc work new.posts told told
 quiet_line trust r sc new m work told same = subst (λ (posts : List Post). LineCut r sc work posts told told) (sym (still_posts trust sc new m same)) (unmade_line r sc work told)
 
--- a line that may keep a record is none of them
+-- a line that may keep a record is not quiet, so a claim about quiet lines says nothing of it
 pub loud_posts : (old new : Scene) (e : Event) → is_quiet e ≡ false → is_quiet e ≡ true → new.posts ≡ old.posts
 loud_posts old new e loud quiet = absurd (cc)
 

@@ -24,7 +24,7 @@ use Rattle.world_core.specs.declared.reply.Reply.TheVariants as reply
 use Rattle.world_spec.specs.SceneSteps.{seat_state, sees_left, sees_to, standing_at}
 use Rattle.world_core.specs.Steps.{entries_lines_in}
 
--- by the stakes of the committee
+-- the report's lines for a member's reply to an entry, and whether the line goes on; by the stakes of the committee
 abbrev pub see_replied : Known → List ℕ → ℕ → ℕ → Reply (Result Seen SeeRefusal) → Lines
 see_replied k stakes m number reply.Down = (line.See m see_text.Down ∷ [], false)
 see_replied k stakes m number reply.Stopped = (line.SeeEntry m number entry_text.Stopped ∷ [], false)

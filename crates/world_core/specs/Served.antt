@@ -27,7 +27,7 @@ use Rattle.world_core.specs.Replies.{Leaves, Replies}
 use Rattle.world_core.specs.Restarts.{MayRestart}
 use Rattle.world_core.specs.Stays.{Stays}
 
--- the keeper of records: its width, and its count of faults, which rose if one of them broke off the call
+-- the keeper of records: its width, and its count of faults, which rose if a fault of the keeper broke off the call
 pub record KeeperAfter (wide widened failed risen : ℕ) (BrokeOff : Type 0) : Type 0 where
   pub width : widened ≡ wide
   pub later : failed ≤ risen
@@ -43,8 +43,8 @@ pub record Served {A : Type 0} (Says : Member → A → Type 0) (r : Rules) (cal
   pub owed : IsErrOf result seat_fault.KeepFault → is_some (record_left (reached_in r old.posts m call)) ≡ true
   pub able : IsErrOf result seat_fault.OutOfMemory → IsAble (standing_at (slice_get old.posts m))
 
--- a line that is no `restart`: the world, the report's lines and the records are the definition's if it was completed; if it
--- broke off, its call came so far (`cut`), and all else is as before (`books`, `quiet`, `said`)
+-- a line that is not a `restart`: if it was completed, the world, the report's lines and the records are the
+-- definition's; if it broke off, `cut` says how far its call came, and all else is as before (`books`, `quiet`, `said`)
 pub record LineAfter {E : Type 0} (trust : Trust) (old : Scene) (e : Event) (new : Scene) (before now : Option Journals) (result : Result (List Line) E) : Type 0 where
   pub world : OnOk result (new ≡ scene_after trust old e)
   pub lines : IfOk result (λ lines. lines ≡ lines_after trust old e)

@@ -1,5 +1,5 @@
 -- What holds of each world: its transactions and certificates can be encoded, its entries can be kept, and its opening
--- has no id twice.
+-- objects have distinct ids.
 use Rattle.std.specs.Prelude.{List}
 use Rattle.chain_types.specs.declared.objects.Object.{Object}
 use Rattle.chain_types.specs.Transactions as transactions

@@ -1,5 +1,6 @@
--- A line of a schedule and its lines of the report, in the words of the code: a call leaves the members as `posts_behind` says and the
--- report's lines by `reached_in`. `proofs/Steps` shows that this is the step of the definitions.
+-- A line of a schedule and its lines of the report, in the words of the code: a call leaves the members as
+-- `posts_behind` says and the report's lines are by `reached_in`. `proofs/Steps` shows that this is the step of the
+-- definitions.
 use Rattle.std.specs.Prelude.{ℕ, zero, suc, min, Bool, false, List, [], ◌∷◌, ◌++◌, map, length, slice_get, Option, Some, None, option_and_then, if◌then◌else◌}
 use Rattle.digest_core.specs.declared.Digest.{Digest}
 use Rattle.quorum_core.specs.declared.signer.Signer.{Signer}

@@ -33,7 +33,7 @@ use world_lines::{
 };
 
 /// The ending of the report's line for a member's answer about an acknowledgement; an acknowledgement that it gave is
-/// added to what was stated. Out of memory: nothing is added.
+/// added to what was stated. If out of memory, nothing is added.
 fn tell_ack(
     directory: &Directory,
     said: &mut StatementLog,
@@ -75,8 +75,8 @@ fn say_ack<S: Sealer>(
     }
 }
 
-/// What a faulty member acknowledges: the digest of the lowest-numbered honest member that is up and executed the
-/// transaction, else zeros.
+/// What a faulty member acknowledges: the digest that the lowest-numbered honest member that is up and executed the
+/// transaction has, else zeros; spoiled if that is asked for.
 fn false_ack(seats: &Seats, made: &MadeTx, spoiled: bool) -> Statement
     ensures { result ≡ false_ack_by seats.now.posts (made_as made.now) spoiled }
 {
@@ -109,8 +109,8 @@ fn final_line(alloc: Global, tx: &[u8], text: FinalText) -> Result<Seq<Line>, Ou
 }
 
 impl World {
-    /// The line `ack`: an honest member acknowledges a transaction that it executed, a faulty one any, with a digest
-    /// that may be spoiled. It keeps no record.
+    /// The line `ack`: an honest member acknowledges a transaction only if it executed it; a faulty one acknowledges
+    /// any, with a digest that may be spoiled. No record is kept.
     #[tactic(auto, using(crate::proofs::Acking::unnamed_acks, crate::proofs::Acking::unnamed_lines, crate::proofs::Acking::honest_acks, crate::proofs::Acking::honest_lines, crate::proofs::Acking::faulty_acks, crate::proofs::Acking::faulty_lines, crate::proofs::Stated::unsaid_on))]
     pub(crate) fn say_ack<S: MakesSeals>(
         &mut self,

@@ -27,8 +27,8 @@ use std::thread::Threads;
 use wire_bcs::{OutOfMemory, Seq};
 use world_lines::{Directory, MakesSeals, StatementLog, hold_text, one_line, run_lines, vote_text};
 
-/// The ending of the report's line for a member's reply to a request for its vote; a vote that it gave is added to
-/// what was stated. Out of memory: nothing is added.
+/// The ending of the report's line for a member's reply to a request for its vote; a vote that it gave is added to what
+/// was stated. If out of memory, nothing is added.
 fn tell_vote(
     directory: &Directory,
     said: &mut StatementLog,
@@ -77,8 +77,8 @@ fn run_line(alloc: Global, member: u32, text: RunText) -> Result<Seq<Line>, OutO
     one_line(alloc, Line::Run { member, text })
 }
 
-/// The report's lines for a member's reply to a run; the checkpoints that it completed are added to what was stated. Out of
-/// memory: only the first few are added, or none.
+/// The report's lines for a member's reply to a run; the checkpoints that it completed are added to what was stated. If
+/// out of memory, only the first few are added, or none.
 #[tactic(auto, using(world_lines::proofs::Growing::none_added, crate::proofs::Stated::some_said))]
 fn tell_run(
     directory: &Directory,

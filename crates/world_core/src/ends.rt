@@ -26,7 +26,7 @@ use wire_bcs::{OutOfMemory, Seq};
 use world_lines::{Directory, MakesSeals, StatementLog, end_text, one_line};
 
 /// The ending of the report's line for a member's answer about its End; an End that it gave is added to what was
-/// stated. Out of memory: nothing is added.
+/// stated. If out of memory, nothing is added.
 fn tell_end(
     directory: &Directory,
     said: &mut StatementLog,

@@ -5,14 +5,14 @@
 //! the terms and the opening, what is known under names, what was ordered, said and formed, and the members as they
 //! stand. Each step is the definition's step of that scene, with its lines, and the keeper's lists grow by the
 //! records that the line leaves.
-//! [`World::replay`] starts a member from records that were kept before, beside the world.
+//! [`World::replay`] starts a member from records that were kept before; the world stays as it is.
 //! [`World::sums`] says what a member has built and holds, in numbers.
 //! Each name, vote and version is found by a map, so a line costs time in proportion to its own words.
 //!
-//! Within, [`Seats`] are the members, up or down, with armed stops and restarts: each hands a call to the member that
-//! it is for, and says what became of it. A stop that is armed cuts the next call that has a record to append: the
-//! record is kept or lost, as was said, and the member is down until it restarts from the records of its keeper.
-//! [`ask_vote`] and its like hand a call to a member that is up, for a caller with one member and no world.
+//! Within the crate, [`Seats`] are the members, up or down, with armed stops and restarts: each call is handed to the
+//! member that it is for, and they say what became of it. An armed stop cuts the next call that has a record to append:
+//! the record is kept or lost, as the stop says, and the member is down until it restarts from the records of its
+//! keeper. [`ask_vote`] and its like hand a call to a member that is up, for a caller with one member and no world.
 #![tactic(auto)]
 
 mod acks;

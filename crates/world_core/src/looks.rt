@@ -91,7 +91,7 @@ impl World {
         }
     }
 
-    /// What stands under names: those of the set-up, and of the `tx` lines that ran. Takes no memory.
+    /// What names denote: those of the set-up, and of the `tx` lines that ran. Takes no memory.
     pub fn names(&self) -> &Directory
         ensures { result.now ≡ self.now.known }
     {

@@ -26,7 +26,8 @@ use wire_bcs::{OutOfMemory, Seq};
 use world_lines::{MakesSeals, one_line, order_and_rise, order_end_line, order_line, sealed_end};
 
 impl World {
-    /// A lemma, nothing runs: each entry that was ordered can be kept in a record, by the invariant of [`ConsensusLog`].
+    /// A lemma; it runs no code: each entry that was ordered can be kept in a record, by the invariant of
+    /// [`ConsensusLog`].
     #[tactic(auto, using(crate::proofs::Ordered::can_keep))]
     pub(crate) fn can_keep(&self)
         ensures { AreKeepable self.now.sequences }
@@ -73,8 +74,8 @@ impl World {
         Ok(lines)
     }
 
-    /// Orders a member's End of the open epoch. Another epoch opens if the members of its Ends are a quorum then. If memory
-    /// is refused no epoch opens, and the End is ordered or not.
+    /// Orders a member's End of the open epoch. Another epoch opens if the members of its Ends are a quorum then. If
+    /// memory is refused, no epoch opens, and the End was ordered or not.
     #[tactic(auto, using(crate::proofs::OrderedEnds::end_undone, crate::proofs::OrderedEnds::end_broken))]
     fn append_end<S: MakesSeals>(
         &mut self,
@@ -113,8 +114,8 @@ impl World {
     }
 
     /// The line `order end`: orders the last End of an honest member, if it is of the open epoch; a faulty member
-    /// states one of the open epoch first. Another epoch opens if the open one has ended then. Refusals are those of
-    /// [`World::append_end`]; what a faulty member states may stand.
+    /// states one of the open epoch first. Another epoch opens if the open one has ended then. Errors are those of
+    /// [`World::append_end`]; after one, what a faulty member stated may have been added.
     #[tactic(auto, using(crate::proofs::OrderedEnds::end_undone, crate::proofs::Stated::unsaid_on))]
     pub(crate) fn order_end<S: MakesSeals>(
         &mut self,

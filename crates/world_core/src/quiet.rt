@@ -16,8 +16,8 @@ use wire_bcs::{OutOfMemory, Seq};
 use world_lines::{MakeRefusal, MakesSeals, TxLine, make, one_line, shown_lines};
 
 impl World {
-    /// The line `tx`: makes the transaction of the words. One that cannot be encoded counts as running out of memory; no
-    /// text of a schedule is long enough to say one.
+    /// The line `tx`: makes the transaction of the words. One that cannot be encoded counts as running out of memory;
+    /// no text of a schedule is long enough to describe one.
     #[tactic(auto, using(crate::proofs::Sound::sound_made))]
     pub(crate) fn make_tx<S: MakesSeals>(
         &mut self,

@@ -128,8 +128,9 @@ fn vote_fault(answer: &Result<Voted, VoteRefusal>) -> Option<SeatFault>
     }
 }
 
-/// Asks a member that is up for its vote. The error is what kept it from an answer: a fault of the keeper, which comes only
-/// if a record is due, or that memory was refused, which comes only if the member met no fork. After it the member is down.
+/// Asks a member that is up for its vote. An error says what kept it from an answer: a fault of the keeper, which comes
+/// only if a record is due, or running out of memory, which comes only if the member met no fork. After an error the
+/// member is down.
 pub fn ask_vote<D: Keeper, S: Sealer>(
     validator: &mut Validator,
     keeper: &mut D,

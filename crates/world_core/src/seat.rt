@@ -24,7 +24,7 @@ use std::marker::Model;
 use std::thread::Threads;
 use validator_core::Validator;
 
-/// A member: whether it is honest, the member if it is up, and an armed stop, which keeps the next record or
+/// A seat: whether its member is honest, the member if it is up, and an armed stop, which keeps the next record or
 /// loses it. Contracts see the definition's post.
 #[derive(Drop)]
 pub(crate) struct Seat {
@@ -53,12 +53,12 @@ impl Seat {
     pub(crate) fn start(&mut self, validator: Validator)
         ensures { self.new ≡ record { honest = self.old.honest; standing = Some validator; armed = None } }
     {
-        // Let go by name: a member that is dropped in place has the drop of all its tables proved here.
+        // Dropped by name: if the member were dropped in place, the drop of all its tables would be proved here.
         drop(self.validator.replace(validator));
         self.armed = None;
     }
 
-    /// The member is down, and no stop is armed. Takes no memory.
+    /// Takes the member down, and disarms its stop. Takes no memory.
     fn stop(&mut self)
         ensures { self.new ≡ record self.old { standing = None; armed = None } }
     {
@@ -66,7 +66,7 @@ impl Seat {
         self.armed = None;
     }
 
-    /// The member is down. Takes no memory.
+    /// Takes the member down; an armed stop stays armed. Takes no memory.
     fn fall(&mut self)
         ensures { self.new ≡ fallen self.old }
     {
@@ -125,9 +125,9 @@ impl Seat {
         }
     }
 
-    /// Asks the member, of this number in its committee: `Down` if it is down, `Stopped` if it stops at an armed stop, else its
-    /// answer. `KeepFault` comes only if the call leaves a record, running out of memory only if the member is up and met no
-    /// fork; after both it is down.
+    /// Asks the member, which has this number in its committee: `Down` if it is down, `Stopped` if it stops at an armed
+    /// stop, else its answer. `KeepFault` comes only if the call leaves a record, running out of memory only if the
+    /// member is up and met no fork; after either it is down.
     #[tactic(auto, using(crate::proofs::Stopping::reached_idle, crate::proofs::Stopping::stop_is, crate::proofs::Stopping::stop_free))]
     pub(crate) fn call<R: Threads + Sync, D: Keeper, S: Sealer, Q: Asks>(
         &mut self,

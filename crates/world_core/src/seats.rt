@@ -130,8 +130,8 @@ impl Seats {
         &self.terms.committee
     }
 
-    /// Arms a stop: the next record of the member is kept or lost, and the member stops there. One that is not
-    /// there is left out. Takes no memory.
+    /// Arms a stop: the next record of the member is kept or lost, and the member stops there. Does nothing if there is
+    /// no such member. Takes no memory.
     pub fn arm(&mut self, member: u32, kept: bool)
         ensures posts { self.new.posts ≡ armed_at self.old.posts member kept }
         ensures terms { self.new.terms ≡ self.old.terms }
@@ -144,10 +144,11 @@ impl Seats {
         seat.arm(kept);
     }
 
-    /// Hands a request to a member, as [`VoteRequest`](crate::requests::VoteRequest). `Down`: the member is down or not there.
-    /// `Stopped`: a stop was armed and a record was due; the member is down, and its record was kept if the stop keeps. Else it
-    /// answered, and its record stands. `KeepFault` comes only if the call leaves a record, running out of memory only if the
-    /// member is up and met no fork. After both the member is down, and its record stands or does not; the other members stay.
+    /// Hands a request to a member, as [`VoteRequest`](crate::requests::VoteRequest). `Down`: the member is down or not
+    /// there. `Stopped`: a stop was armed and a record was due; the member is down, and its record was kept if the stop
+    /// keeps. Else it answered, and its record was kept. `KeepFault` comes only if the call leaves a record, running
+    /// out of memory only if the member is up and met no fork. After either the member is down, and its record was kept
+    /// or not; the other members stay as they are.
     pub(crate) fn call<R: Threads + Sync, D: Keeper, S: Sealer, Q: Asks>(
         &mut self,
         rt: &R,
@@ -224,9 +225,9 @@ impl Seats {
         executed_in(self.seats.as_slice(), tx)
     }
 
-    /// Starts a member from the records that its keeper has, in an epoch 0 that opens with these objects, and
-    /// answers how many they are. No stop is armed after it. A member that is not there: 0, and nothing changes.
-    /// After a refusal nothing changes.
+    /// Starts a member from the records that its keeper has, in an epoch 0 that opens with these objects, and answers
+    /// how many records there are. No stop is armed after it. If there is no such member, the answer is 0 and nothing
+    /// changes. After a refusal nothing changes.
     pub fn restart<D: Keeper, S: Sealer>(
         &mut self,
         alloc: Global,

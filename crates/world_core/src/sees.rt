@@ -57,7 +57,7 @@ fn add_last(lines: &mut Seq<Line>, line: Line) -> Result<bool, OutOfMemory>
 }
 
 /// Adds the report's lines for a member's reply to an entry, and answers whether the `see` line goes on after it. The
-/// checkpoints that the entry completed are added to what was stated; out of memory: only the first few, or none.
+/// checkpoints that the entry completed are added to what was stated; if out of memory, only the first few, or none.
 #[tactic(auto, using(world_lines::proofs::Growing::none_added, crate::proofs::Stated::some_said))]
 fn tell_entry(
     directory: &Directory,
@@ -167,8 +167,8 @@ impl World {
         }
     }
 
-    /// Hands a member this many entries, one after the other, up to the first after which nothing goes on: adds their
-    /// lines.
+    /// Hands a member this many entries, one after the other, up to the first after which the `see` line does not go
+    /// on; adds their lines.
     #[tactic(auto, using(crate::proofs::Seeing::seen_none, crate::proofs::Seeing::seen_one, crate::proofs::Seeing::all_scene, crate::proofs::Seeing::all_lines, crate::proofs::Seeing::all_kept))]
     fn see_all<R: Threads + Sync, D: Keeper, S: MakesSeals>(
         &mut self,
@@ -226,7 +226,7 @@ impl World {
         )
     }
 
-    /// How many entries a member has before it.
+    /// How many entries of its epoch's sequence a member has not taken yet.
     fn entries_left(&self, validator: &Validator) -> u64
         ensures { result ≡ entries_left (post_world self.now) (Some validator.now.state) }
     {

@@ -41,14 +41,14 @@ impl World {
     /// threads. Each record that it leaves is appended before the call that leaves it answers. `KeepFault`: the keeper
     /// failed, and its count of faults rose. `BadRecord`: the member of a `restart` line does not start from its records.
     ///
-    /// After a fault the world still stands: each look answers of it, and a step may follow. The names, the transactions, the
-    /// certificates and the sequences are as before, except that an `order end` may have ordered its End, and opened no epoch
-    /// then. So is every member except the one that the line calls. That one is as before its
-    /// call; or it fell in the call and is down, so no look finds it, and its record was kept or not; or it is as after the
-    /// call, its record was kept, and only the line of the report is missing. A `see` may have handed in some entries before
-    /// that. A member that fell starts again from its records by a `restart` line, and a `restart` that fails changes
-    /// nothing. A line that touches no record, as `end` and `ack`, leaves each member as it was. What was stated is as before, or
-    /// goes on with the first of what the line would have stated.
+    /// After a fault the world still stands: look-ups still answer, and another step may follow. The names, the
+    /// transactions, the certificates and the sequences are as before, except that an `order end` may have ordered its
+    /// End without opening an epoch. So is every member except the one that the line calls. That one is as before its
+    /// call; or it fell in the call and is down, so no look-up finds it, and its record was kept or not; or it is as
+    /// after the call, its record was kept, and only the line of the report is missing. A `see` may have handed in some
+    /// entries before that. A member that fell starts again from its records by a `restart` line, and a `restart` that
+    /// fails changes nothing. A line that touches no record, such as `end` or `ack`, leaves each member as it was. What
+    /// was stated is as before, or has grown by the first of the statements that the line would have made.
     pub fn step<R: Threads + Sync, D: Keeper, S: MakesSeals>(
         &mut self,
         rt: &R,

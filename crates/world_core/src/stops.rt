@@ -60,7 +60,7 @@ fn ask_on_paper<R: Threads + Sync, S: Sealer, Q: Asks>(
     Ok((answer, due))
 }
 
-/// Appends the bytes of a record. Those of 2^31 bytes, more than any record has, count as running out of memory.
+/// Appends the bytes of a record. Bytes of length 2^31 or more, which no record has, count as running out of memory.
 fn append<D: Keeper>(keeper: &mut D, member: u32, bytes: &[u8]) -> Result<(), SeatFault>
     requires known { member < D.width keeper.old }
     ensures kept { AddsBytes (D.lists keeper.old) (D.lists keeper.new) member bytes.now result }
@@ -131,8 +131,8 @@ pub(crate) fn ask_armed<R: Threads + Sync, D: Keeper, S: Sealer, Q: Asks>(
     }
 }
 
-/// The armed stop that may cut a call of the member. One that met a fork keeps no record, so none cuts its calls. Takes no
-/// memory.
+/// The armed stop that may cut a call of the member. A member that met a fork keeps no record, so no stop cuts its
+/// calls. Takes no memory.
 #[tactic(auto, using(protocol_spec::proofs::Truth::some_mapped))]
 pub(crate) fn stop_of(validator: &Validator, armed: Option<bool>) -> Option<bool>
     ensures { result ≡ stop_at validator.now.state armed }

@@ -16,9 +16,9 @@ const GAS_CURRENCY: u64 = 0;
 pub struct Sums {
     /// How many transactions stand in the checkpoints that it has built, over all its epochs.
     pub transactions: u64,
-    /// How many these checkpoints are.
+    /// How many checkpoints it has built.
     pub checkpoints: u64,
-    /// How many of its objects live.
+    /// How many live objects it holds.
     pub objects: u64,
     /// What the live objects hold of currency 0, the currency of gas.
     pub sum: u128,
@@ -38,8 +38,7 @@ fn sums_of(validator: &Validator) -> Result<Sums, OutOfMemory>
 }
 
 impl World {
-    /// The sums of a member; none exactly if it is faulty, down or not there. No answer but running out of memory is a
-    /// refusal.
+    /// The sums of a member; none exactly if it is faulty, down or not there. The only error is running out of memory.
     pub fn sums(&self, member: u32) -> Result<Option<Sums>, OutOfMemory>
         ensures { IfOk result (λ told. told ≡ sums.sums_at (slice_get self.now.posts member)) }
     {

@@ -101,7 +101,7 @@ fn draws_of(command: &Command) -> usize
     }
 }
 
-/// How many ids the commands of a transaction draw at most. A number past its type counts as running out of memory.
+/// How many ids the commands of a transaction draw at most. An overflow of this number counts as running out of memory.
 fn draws(commands: &[Command]) -> Result<usize, OutOfMemory>
     ensures { IfOk result (λ count. count ≡ draws commands.now) }
 {

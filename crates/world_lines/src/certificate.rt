@@ -38,8 +38,8 @@ impl Model for FormedCertificate {
     ghost invariant = { λ c. c.entry ≡ codecs.entry.spell (entries.Cert (with_seals c.signed.tx c.origins c.seals)) };
 }
 
-/// Writes the entry that orders the certificate of a transaction: its number, and the certificate. The encoding of the
-/// transaction is not made again.
+/// Writes the entry that orders the certificate of a transaction: the number of its variant, and the certificate. The
+/// encoding of the transaction is not made again.
 #[tactic(auto, using(wire_bcs::specs::Wrote::parts), unfolding(chain_messages::specs::Messages::certificate, chain_messages::specs::Messages::entry))]
 fn write_entry(
     writer: &mut Writer,
@@ -57,10 +57,10 @@ fn write_entry(
     Ok(())
 }
 
-/// The number of the entries that order a certificate.
+/// The number of the variant of entries that order a certificate.
 const CERT: u32 = 0;
 
-/// In bytes: the most that the entry's number and the lengths of the two lists take.
+/// In bytes: the most that the variant's number and the lengths of the two lists take.
 const LENGTHS: usize = 11;
 
 /// In bytes: the most that an origin takes.

@@ -1,4 +1,4 @@
-//! The [`Directory`]: what stands under the names of a run, and its look-ups.
+//! The [`Directory`]: what the names of a run denote, and its look-ups.
 
 ghost use Rattle.std.specs.Prelude.{◌≡◌, ◌∷◌, ◌++◌, [], IfOk, OnOk, bytes_eq, find, fold, length, option_copied, option_map};
 ghost use Rattle.digest_core.specs.Tagged.{address_of_name};
@@ -59,7 +59,8 @@ impl Directory {
         }
     }
 
-    /// What the set-up lines name, and the objects with which epoch 0 opens: of objects with one id the first.
+    /// What the set-up lines name, and the objects with which epoch 0 opens: of objects with the same id only the
+    /// first.
     #[tactic(auto, using(crate::proofs::SetUp::all_known, crate::proofs::SetUpLines::all_objects))]
     pub fn with_opening(
         alloc: Global,
@@ -201,8 +202,8 @@ impl Directory {
     }
 
     /// Puts off the hashing of the ids that lines draw until one is looked up; this ends with the first line whose
-    /// words name a created object, or with [`Directory::settle`]. While ids wait, a look-up by an id that is no
-    /// set-up thing's hashes all of them. Takes no memory.
+    /// words name a created object, or with [`Directory::settle`]. While ids wait, looking up an id that is neither a
+    /// set-up thing's nor hashed already hashes all of them. Takes no memory.
     pub fn wait(&mut self)
         ensures { self.new ≡ self.old }
     {
@@ -231,7 +232,7 @@ impl Directory {
         self.txs.named(name)
     }
 
-    /// The digest of the transaction of this name, else 32 zero bytes. Takes no memory.
+    /// The digest of the transaction of this name; 32 zero bytes if there is none. Takes no memory.
     pub(crate) fn digest_named(&self, name: &[u8]) -> Digest
         ensures { result ≡ digest_named (world_with self.now) name.now }
     {

@@ -1,4 +1,4 @@
-//! The ids that lines name or draw. An id costs a hash, so ids may wait: then they are made when one is looked up.
+//! The ids that lines name or draw. An id costs a hash, so ids may wait, and are then made only when one is looked up.
 
 ghost use Rattle.std.specs.Prelude.{◌≡◌, ◌<◌, ◌∷◌, ◌++◌, [], IfOk, OnOk, find, map};
 ghost use Rattle.chain_types.specs.Equal.{digest_eq};
@@ -136,8 +136,8 @@ impl DrawnIds {
         }
     }
 
-    /// The first row of an id; none exactly if no row has it. While ids wait, an id that is not among the others costs
-    /// the making of all that wait, and the memory for them.
+    /// The first row of an id; none exactly if no row has it. An id that is not among those already made costs the
+    /// making of all that wait, and the memory for them.
     pub(crate) fn find(&self, id: &Digest) -> Result<Option<DrawnRow>, OutOfMemory>
         ensures { IfOk result (λ row. row ≡ find (λ (r : Row). digest_eq id.now r.id.0) self.now.rows) }
     {
@@ -180,8 +180,8 @@ impl DrawnIds {
         Ok(())
     }
 
-    /// Makes the ids that wait, and lets none wait from now on. Where memory is refused they go on waiting, until the
-    /// next line.
+    /// Makes the ids that wait, and lets none wait from now on. If memory is refused they go on waiting until the next
+    /// line.
     pub(crate) fn settle(&mut self)
         ensures { self.new.rows ≡ self.old.rows }
     {

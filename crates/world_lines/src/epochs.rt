@@ -90,7 +90,8 @@ fn add_reverted(
     Ok(())
 }
 
-/// The lines for a turn out of this epoch: the next one and how many transactions were reverted, and each of these.
+/// The lines for a turn out of this epoch: one with the next epoch and the number of reverted transactions, then one
+/// for each of these.
 #[tactic(auto, using(crate::proofs::Pushed::one_behind))]
 fn turned_lines(
     directory: &Directory,

@@ -15,14 +15,14 @@ use std::marker::Model;
 use std::snapshot::Snapshot;
 use wire_bcs::OutOfMemory;
 
-/// A certificate. The name for which it was formed stands only in contracts: the map has it.
+/// A certificate. Its row keeps the name for which it was formed for contracts only; code finds it by the map.
 #[derive(Drop)]
 pub(crate) struct FormedRow {
     name: Snapshot<Vec<u8>>,
     cert: FormedCertificate,
 }
 
-/// Notes the place of a name, which takes that of an older one. A refusal changes nothing.
+/// Notes the place of a name; it replaces an older one. A refusal changes nothing.
 fn note_name(
     places: &mut IndexMap<Vec<u8>, usize>,
     name: Vec<u8>,

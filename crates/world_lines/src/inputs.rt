@@ -15,8 +15,8 @@ use schedule_text::{InputWord, ObjWord, RefWord};
 use std::alloc::Global;
 use wire_bcs::{OutOfMemory, Seq};
 
-/// A source of the digests of object versions, which a transaction's references need: the members of a committee, for
-/// one.
+/// A source of the digests of object versions, which a transaction's references need: for example, the members of a
+/// committee.
 pub trait HeldDigests {
     ghost held: { Self → Key → Option Sum };
 
@@ -25,14 +25,14 @@ pub trait HeldDigests {
         ensures { result ≡ held self.now key.now };
 }
 
-/// The byte with its last bit turned. Takes no memory.
+/// The byte with its last bit flipped. Takes no memory.
 fn turned(byte: u8) -> u8
     ensures { result ≡ turned byte }
 {
     if byte % 2 == 0 { byte + 1 } else { byte - 1 }
 }
 
-/// The digest with the last bit of its first byte turned. Takes no memory.
+/// The digest with the last bit of its first byte flipped. Takes no memory.
 #[tactic(auto, using(crate::proofs::LastWords::first_turned))]
 fn spoil(digest: &Digest) -> Digest
     ensures { result ≡ spoiled_if true digest.now }

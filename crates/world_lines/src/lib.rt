@@ -3,29 +3,29 @@
 //! Each call turns an answer into the endings or lines that a report has for it, in which a
 //! [`Directory`] names transactions, versions and objects. An answer is only read.
 //!
-//! A [`StatementLog`] keeps all statements, oldest first, and finds by maps a member's last vote for a transaction, its last
-//! End, and its last acknowledgement of a transaction in an epoch; [`StatementLog::collect`] and [`StatementLog::collect_acks`]
-//! say what the last votes and acknowledgements of members give. A [`FormedCertificates`] keeps the certificates under the
-//! names for which they were formed, and finds the last of a name by a map. [`certify`] collects the votes of members
-//! with the seals that they put on them. An [`ConsensusLog`] keeps the sequences of the epochs, each entry encoded once,
-//! and beside them the Ends of the open epoch: only they say whether it has ended. Each answer is the definition's, one
-//! equation a call.
+//! A [`StatementLog`] keeps all statements, oldest first, and finds by maps a member's last vote for a transaction, its
+//! last End, and its last acknowledgement of a transaction in an epoch; [`StatementLog::collect`] and
+//! [`StatementLog::collect_acks`] say what the last votes and acknowledgements of members give. A
+//! [`FormedCertificates`] keeps the certificates under the names for which they were formed, and finds the last of a
+//! name by a map. [`certify`] collects the votes of members with the seals that they put on them. A [`ConsensusLog`]
+//! keeps the sequences of the epochs, each entry encoded once, and beside them the Ends of the open epoch, since only
+//! Ends say whether it has ended. Each answer is the definition's, which one equation for each call states.
 //!
-//! What is known under names in a run, and the transaction that a line makes.
+//! The crate also has what the names of a run denote, and makes the transaction of a line.
 //!
-//! A [`Directory`] begins with the set-up lines; [`Directory::add_made`] adds a transaction and the names of
-//! its line. A name counts from its line on, and the first name of a thing is the one that is shown. Contracts
-//! see the four lists, and each answer is that of the definitions on them. Look-ups are by maps: none scans
-//! what is known, but for ids that wait ([`Directory::wait`]). [`Directory::shown_order`] puts objects into the order
-//! in which a report shows them.
+//! A [`Directory`] begins with the set-up lines; [`Directory::add_made`] adds a transaction and the names of its line.
+//! A name counts from its line on, and the first name of a thing is the one that is shown. Contracts see the four
+//! lists, and each answer is that of the definitions on them. Look-ups are by maps: none scans what is known, except
+//! while ids wait ([`Directory::wait`]). [`Directory::shown_order`] puts objects into the order in which a report shows
+//! them.
 //!
-//! [`stakes_of`], [`honest_of`] and [`writers_of`] read the set-up lines: the stakes, which members are honest, and the limit of
-//! writers. [`Directory::with_opening`] gives the objects with which epoch 0 opens beside the names, so that ids and addresses are
-//! hashed once.
+//! [`stakes_of`], [`honest_of`] and [`writers_of`] read the set-up lines: the stakes, which members are honest, and the
+//! limit of writers. [`Directory::with_opening`] gives the names together with the objects with which epoch 0 opens, so
+//! that ids and addresses are hashed once.
 //!
-//! [`make`] turns the words of a `tx` line into a signed transaction: the objects are named by a [`Directory`], the
-//! digests of versions are those that are held ([`HeldDigests`]), and the seal is the sender's ([`MakesSeals`]). A
-//! mark after a version or the sender spoils the digest or the seal.
+//! [`make`] turns the words of a `tx` line into a signed transaction: a [`Directory`] says which objects the words
+//! name, the digests of versions are those that are held ([`HeldDigests`]), and the seal is the sender's
+//! ([`MakesSeals`]). A mark after a version or the sender spoils the digest or the seal.
 #![tactic(auto)]
 
 mod adding;

@@ -7,7 +7,7 @@ use schedule_text::{CommandWord, InputWord, RefWord};
 pub struct TxLine<'a> {
     pub name: &'a [u8],
     pub sender: &'a [u8],
-    /// The sender's seal is spoiled.
+    /// Whether the sender's seal is spoiled.
     pub spoiled: bool,
     pub epoch: u64,
     pub gas: &'a RefWord,

@@ -1,4 +1,4 @@
-//! What the set-up lines make: the stakes, which members are honest, and objects of which none has the id of another.
+//! What the set-up lines make: the stakes, which members are honest, and objects with distinct ids.
 
 ghost use Rattle.std.specs.Prelude.{◌≡◌, ◌++◌, ◌∷◌, [], IfOk, OnOk, false, fold, map, true};
 ghost use Rattle.world_spec.specs.Setting.{honest_of, stakes_of, with_new, writers_of};
@@ -94,7 +94,7 @@ pub fn honest_of(alloc: Global, setup: &[Setup]) -> Result<Vec<bool>, OutOfMemor
     Ok(flags)
 }
 
-/// Adds an id that is not there.
+/// Adds an id that is not in the set yet.
 fn insert_new_id(seen: &mut IndexSet<ObjectId>, id: ObjectId) -> Result<(), OutOfMemory>
     requires { has_id seen.old.keys id ≡ false }
     ensures { OnOk result (seen.new.keys ≡ seen.old.keys ++ id ∷ []) }
@@ -103,7 +103,7 @@ fn insert_new_id(seen: &mut IndexSet<ObjectId>, id: ObjectId) -> Result<(), OutO
     Ok(())
 }
 
-/// Whether an id is there. Takes no memory.
+/// Whether an id is in the set. Takes no memory.
 fn is_seen(seen: &IndexSet<ObjectId>, id: &ObjectId) -> bool
     ensures { result ≡ has_id seen.now.keys id.now }
 {

@@ -22,21 +22,22 @@ use wire_bcs::{OutOfMemory, Seq};
 /// In bytes: no record can keep an entry of this length or more.
 const TOO_LONG: u64 = 1 << 31;
 
-/// What an entry is, for contracts only: of one that orders a certificate, the certificate.
+/// What an entry is, for contracts only: the certificate if it orders one, else the whole entry.
 #[derive(Drop)]
 pub(crate) enum EntryView {
     Cert(Snapshot<FormedCertificate>),
     Whole(Snapshot<Entry>),
 }
 
-/// An entry of a sequence, encoded once for all members. What it is stands only in contracts.
+/// An entry of a sequence, encoded once for all members. Only contracts see what it is.
 #[derive(Drop)]
 pub(crate) struct OrderedRow {
     entry: EntryView,
     bytes: SharedBytes,
 }
 
-/// An entry with its encoding. One of 2^31 bytes, more than any record can keep, is reported as out of memory.
+/// An entry with its encoding. An encoding of 2^31 bytes or more, which no record can keep, is reported as out of
+/// memory.
 fn ordered_row(entry: EntryView, bytes: SharedBytes) -> Result<OrderedRow, OutOfMemory>
     requires { bytes ≡ codecs.entry.spell (entry_in entry) }
     ensures spelled { IfOk result IsSpelled }
@@ -58,7 +59,7 @@ fn spelled(alloc: Global, entry: &Entry) -> Result<OrderedRow, OutOfMemory>
     ordered_row(EntryView::Whole(Snapshot::of(entry)), bytes)
 }
 
-/// The entry that orders a certificate, which owns the encoding too: it is not made again.
+/// The entry that orders a certificate. It shares the encoding that the certificate has: it is not made again.
 fn spelled_cert(cert: &FormedCertificate) -> Result<OrderedRow, OutOfMemory>
     ensures spelled { IfOk result IsSpelled }
     ensures entry { IfOk result (λ row. row_entry row ≡ entries.Cert cert.now) }
@@ -106,7 +107,7 @@ impl Model for ConsensusLog {
 }
 
 impl ConsensusLog {
-    /// A book in epoch 0, with nothing ordered. Takes no memory.
+    /// A log in epoch 0, with nothing ordered. Takes no memory.
     #[tactic(auto, using(crate::proofs::KeptEnds::no_ends))]
     pub fn new(alloc: Global) -> ConsensusLog
         ensures { result ≡ no_orders }
@@ -175,7 +176,7 @@ impl ConsensusLog {
         self.push_row(row, None)
     }
 
-    /// Whether the open epoch's entries end it, to members of this committee that accept these seals. Checks the seal
+    /// Whether the open epoch's entries end it, for members of this committee that accept these seals. Checks the seal
     /// of each distinct End of the epoch once, and looks at no other entry.
     pub fn has_ended<S: Sealer>(
         &self,

@@ -56,9 +56,9 @@ pub fn sealed_end<S: MakesSeals>(
     }))
 }
 
-/// Orders an entry at the end of the open epoch's sequence, and opens another epoch if the open one has ended then, to
-/// members of this committee that accept these seals. If memory is refused no epoch opens, and the book is as before or
-/// has the entry.
+/// Orders an entry at the end of the open epoch's sequence, and opens another epoch if the open one has ended then, for
+/// members of this committee that accept these seals. If memory is refused, no epoch opens, and the entry was ordered
+/// or not.
 pub fn order_and_rise<S: Sealer>(
     order: &mut ConsensusLog,
     committee: &Committee,

@@ -199,7 +199,7 @@ impl StatementLog {
         self.add(member, statement, seal)
     }
 
-    /// Adds the statement of a member's checkpoint that it built. A refusal changes nothing.
+    /// Adds a member's statement of a checkpoint that it built. A refusal changes nothing.
     fn say_checkpoint(&mut self, member: u32, built: &HashedCheckpoint) -> Result<(), OutOfMemory>
         ensures ok { OnOk result (self.new ≡ self.old ++ said_by member (checkpoint_statement built.now) ∷ []) }
         ensures err { OnErr result (self.new ≡ self.old) }

@@ -7,8 +7,8 @@ use std::marker::Model;
 use std::sync::Arc;
 use wire_bcs::{OutOfMemory, Seq};
 
-/// Bytes that stand once in memory: a certificate and the places in a sequence that order it own its entry together.
-/// Contracts see the bytes.
+/// Bytes that stand once in memory: a certificate and the entries of a sequence that order it are owners of the same
+/// bytes. Contracts see the bytes.
 #[derive(Debug, Drop)]
 pub(crate) struct SharedBytes {
     bytes: Arc<Seq<u8>, Global>,
@@ -24,7 +24,7 @@ impl Model for SharedBytes {
 }
 
 impl SharedBytes {
-    /// With one owner.
+    /// These bytes, with one owner.
     pub(crate) fn new(alloc: Global, bytes: Seq<u8>) -> Result<SharedBytes, OutOfMemory>
         ensures { IfOk result (λ s. s ≡ bytes) }
     {
@@ -32,7 +32,7 @@ impl SharedBytes {
         Ok(SharedBytes { bytes })
     }
 
-    /// One more owner of them. The only error is that 2^63 have them, and takes no memory.
+    /// One more owner of them. Takes no memory; the only error is that they have 2^63 owners.
     pub(crate) fn share(&self) -> Result<SharedBytes, OutOfMemory>
         ensures { IfOk result (λ s. s ≡ self.now) }
     {

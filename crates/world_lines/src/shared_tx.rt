@@ -26,7 +26,7 @@ impl Model for SharedTx {
 }
 
 impl SharedTx {
-    /// With one owner, of a transaction that these bytes encode.
+    /// This signed transaction, which these bytes encode, with one owner.
     pub(crate) fn new(
         alloc: Global,
         signed: SignedTx,
@@ -39,7 +39,7 @@ impl SharedTx {
         Ok(SharedTx { signed })
     }
 
-    /// One more owner of it. The only error is that 2^63 have it, and takes no memory.
+    /// One more owner of it. Takes no memory; the only error is that it has 2^63 owners.
     pub(crate) fn share(&self) -> Result<SharedTx, OutOfMemory>
         ensures { IfOk result (λ s. s ≡ self.now) }
     {
@@ -61,7 +61,8 @@ impl SharedTx {
         self.signed.bytes()
     }
 
-    /// The encoding of the transaction without its seal, which ends the other. Takes no memory.
+    /// The encoding of the transaction without its seal: what comes before the seal in the whole encoding. Takes no
+    /// memory.
     #[tactic(auto, using(crate::proofs::Spelled::without_seal))]
     pub(crate) fn tx_bytes(&self) -> &[u8]
         ensures { result.now ≡ codecs.transaction.spell self.now.tx }

@@ -23,7 +23,7 @@ pub(crate) struct Rank {
     number: u64,
 }
 
-/// Where an object is shown: by its rank, and of one rank by its place in the list.
+/// Where an object is shown: by its rank, and among objects of one rank by its place in the list.
 #[derive(Clone, Copy, Debug, PartialEq, Eq, PartialOrd, Ord)]
 pub(crate) struct Place {
     rank: Rank,

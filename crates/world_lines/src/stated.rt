@@ -28,7 +28,7 @@ pub(crate) struct AckKey {
     tx: Digest,
 }
 
-/// Puts a place under a key, in the place of an older one. A refusal changes nothing.
+/// Puts a place under a key; it replaces an older one. A refusal changes nothing.
 fn put<K: Hash + Eq + Drop>(
     places: &mut IndexMap<K, usize>,
     key: K,
@@ -85,8 +85,8 @@ impl LastPlaces {
         }
     }
 
-    /// Notes the place of a member's statement, which takes that of an older one; a checkpoint has none. A refusal
-    /// changes nothing.
+    /// Notes the place of a member's statement, which replaces that of an older one; the place of a checkpoint is not
+    /// noted. A refusal changes nothing.
     pub(crate) fn note(
         &mut self,
         member: u32,

@@ -49,7 +49,7 @@ abbrev pub ack_call : Option Made → List Call
 ack_call None = []
 ack_call (Some t) = acks t.digest ∷ []
 
--- an acknowledgement is asked for; a faulty member gives it as it likes
+-- an acknowledgement is asked for by a call, which a faulty member answers as it likes; a false vote is no call
 abbrev pub claim_calls : Claim → Option Made → List Call
 claim_calls (claims_vote origins) t = []
 claim_calls (claims_ack spoiled) t = ack_call t
@@ -163,7 +163,7 @@ FewFaulty s = 3 * weight_of s.rules.stakes (is_faulty_in s.honest) < total_of s.
 abbrev pub HasSaid : World → ℕ → Statement → Type 0
 HasSaid w m st = (seal : Option Digest) × Has w.said (record { member = m; statement = st; seal = seal })
 
--- the statement is made before, if the seal is an honest member's and accepted
+-- if the member is honest and the seal is accepted as its own, then it has made this statement in this world
 abbrev pub IsStated : Setting → World → ℕ → Statement → Digest → Type 0
 IsStated s w m st seal = is_honest w m ≡ true → accepts_statement s.rules m st seal ≡ true → HasSaid w m st
 

@@ -65,10 +65,10 @@ made_by seal name spoiled t = record {
 abbrev pub line_made : Known → (ObjectKey → Option Digest) → (Signer → List ℕ → Digest) → TxLine → Made
 line_made k held seal l = made_by seal l.name l.spoiled (transaction_by k held l)
 
--- a byte with its last bit turned
+-- a byte with its last bit flipped
 abbrev pub turned : ℕ → ℕ
 turned b = if b % 2 == 0 then b + 1 else b - 1
 
--- the last word, or what comes before them
+-- the argument of the last word; `before` if there is no word
 abbrev pub last_after : Argument → List ArgWord → Argument
 last_after before words = fold (λ a word. argument_of word) before words

@@ -43,13 +43,14 @@ pub data Move : Type 0 where
   requests : ℕ → Request → Move
   -- a member is handed at most so many entries of its sequence
   delivers : ℕ → ℕ → Move
-  -- a faulty member claims something of the transaction of this name; an honest one is asked for it, if it is an acknowledgement
+  -- a faulty member claims something of the transaction of this name; an honest one is asked for it only if it is an
+  -- acknowledgement
   claims : ℕ → Name → Claim → Move
   -- the votes of these members for the transaction of this name become a certificate
   certifies : Name → List ℕ → Move
   -- something is added to the open sequence
   submits : Submission → Move
-  -- an End of a member is
+  -- an End of a member is added to the open sequence
   submits_end : ℕ → Move
   -- the next record of a member will be kept or lost, and it stops there
   arms_stop : ℕ → Bool → Move

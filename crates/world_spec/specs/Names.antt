@@ -110,7 +110,7 @@ pair_lt a b = if a.0 == b.0 then nat_lt a.1 b.1 else nat_lt a.0 b.0
 abbrev pub rank_lt : ((ℕ × ℕ) × ℕ) → ((ℕ × ℕ) × ℕ) → Bool
 rank_lt a b = if (a.0.0 == b.0.0) && (a.0.1 == b.0.1) then nat_lt a.1 b.1 else pair_lt a.0 b.0
 
--- after all that do not come after it
+-- the list with this object put in before the first that comes after it
 abbrev pub shown_among : {S : Type 0} → Setting → WorldOf S → Object → List Object → List Object
 shown_among s w o [] = o ∷ []
 shown_among s w o (p ∷ ps) = if rank_lt (rank s w o) (rank s w p) then o ∷ p ∷ ps else p ∷ shown_among s w o ps

@@ -46,7 +46,7 @@ seat_with r x seat = record seat { state = after_due r seat.state x }
 abbrev pub post_honest : Post → Bool
 post_honest p = p.honest
 
--- a start needs the member's records, which a post has not: see `started_at`
+-- a start needs the member's records, which a post does not have: see `started_at`
 abbrev pub post_acts : Rules → Post → Deed → Post
 post_acts r p (keeps x) = record p { standing = option_map (seat_with r x) p.standing }
 post_acts r p (halts kept x) = record p { standing = None; armed = None }
@@ -133,7 +133,7 @@ abbrev pub AddsLeft : Option Journals → Option Journals → ℕ → Option Rec
 AddsLeft before now m None = KeepsJournals before now
 AddsLeft before now m (Some x) = AddsRecord before now m (journals.journal_record.spell x)
 
--- after a call that did not end: `AddsLeft`, or observable lists are as before
+-- after a call that was not completed: `AddsLeft`, or observable lists are as before
 abbrev pub MayAddLeft : Option Journals → Option Journals → ℕ → Option Record → Type 0
 MayAddLeft before now m x = AddsLeft before now m x ⊎ KeepsJournals before now
 

@@ -106,7 +106,8 @@ voted_text w new (statement.End epoch) = vote_text.Down
 voted_text w new (statement.Checkpoint epoch number digest) = vote_text.Down
 voted_text w new (statement.Ack epoch tx effects) = vote_text.Down
 
--- no run is out of memory, and a fault of the keeper is a stop; both are given the text of a member that is down
+-- here nothing runs out of memory, and a fault of the keeper is a stop; both cases get the text of a member that is
+-- down
 abbrev pub vote_answered : {S : Type 0} → Setting → WorldOf S → Result Voted VoteRefusal → VoteText
 vote_answered s w (Ok v) = voted_text w v.fresh v.statement
 vote_answered s w (Err no_vote.Down) = vote_text.Down
@@ -135,7 +136,7 @@ vote_reached s w bytes (answers m x) = vote_answered s w (vote_answer s.rules m 
 abbrev pub vote_said : {S : Type 0} → Seating S → Setting → WorldOf S → ℕ → List ℕ → VoteText
 vote_said k s w m bytes = vote_reached s w bytes (reached_over k s.rules w m (votes bytes))
 
--- a schedule names only what an earlier line made; another name finds nobody
+-- a schedule names only what an earlier line made; any other name gets the text of a member that is down
 abbrev pub vote_lines : {S : Type 0} → Seating S → Setting → WorldOf S → ℕ → Name → Option Made → List Line
 vote_lines k s w m tx None = line.Vote m tx vote_text.Down ∷ []
 vote_lines k s w m tx (Some t) = line.Vote m tx (vote_said k s w m (transactions.signed.spell t.signed)) ∷ []
@@ -356,7 +357,7 @@ end_answered w (Err no_end.NotClosed) = end_text.NotClosed
 end_answered w (Err (no_end.Waits tx)) = end_text.Waits (tx_name w tx)
 end_answered w (Err no_end.OutOfMemory) = end_text.Down
 
--- an End appends nothing, so no stop comes there; nor at an acknowledgement
+-- an End appends no record, so no stop cuts it; likewise an acknowledgement
 abbrev pub end_reached : {S : Type 0} → Setting → WorldOf S → Reached → EndText
 end_reached s w finds_down = end_text.Down
 end_reached s w (stops kept x) = end_text.Down

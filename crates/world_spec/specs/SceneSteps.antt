@@ -104,7 +104,7 @@ abbrev pub AddsLine : Option (ℕ × List Record) → Option Journals → Option
 AddsLine None before now = KeepsJournals before now
 AddsLine (Some (m, records)) before now = AddsAll before now m records
 
--- after a line that did not end: a prefix of its records was added
+-- after a line that was not completed: a prefix of its records was added
 abbrev pub MayAddLine : Option (ℕ × List Record) → Option Journals → Option Journals → Type 0
 MayAddLine None before now = KeepsJournals before now
 MayAddLine (Some (m, records)) before now = AddsFront before now m records

@@ -110,7 +110,7 @@ HasRoom (Some lists) w = length w.seats ≤ length lists
 
 -- ---- entries that can be kept
 
--- each entry that was ordered has an encoding that fits into a record
+-- the encoding of the entry fits into a record; below, that of each entry of the sequences does
 abbrev pub IsKeepable : Entry → Type 0
 IsKeepable e = length (messages.entry.spell e) < length_limit
 

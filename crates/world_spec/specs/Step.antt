@@ -193,7 +193,7 @@ end_ordered s w m = end_by seat_honest s w m
 
 -- ---- see
 
--- how many entries a member has before it
+-- how many entries of its epoch's sequence a member has not taken yet
 abbrev pub entries_left : {S : Type 0} → WorldOf S → Option Member → ℕ
 entries_left w None = 0
 entries_left w (Some m) = length (entries_at w.sequences m.epoch) - m.sequence.number

@@ -105,7 +105,7 @@ new_seat honest = record { honest = honest; records = []; up = true; armed = Non
 unfoldable pub new_world : Setting → World
 new_world s = record { sequences = [] ∷ []; epoch = 0; seats = map new_seat s.honest; said = []; txs = []; certs = []; users = s.users; drawn = [] }
 
--- a member's state is always that of its records
+-- a member's state is always computed from its records
 abbrev pub member_in : Setting → Seat → Member
 member_in s seat = state s.rules s.opening seat.records
 
@@ -197,7 +197,7 @@ appended records (Some x) = records ++ x ∷ []
 abbrev pub with_seat : {S : Type 0} → WorldOf S → ℕ → S → WorldOf S
 with_seat w m seat = record w { seats = slice_set w.seats m seat }
 
--- a stop takes the answer and the statements; the record is kept or lost
+-- a stop suppresses the answer and the statements; the record is kept or lost
 abbrev pub stopped_seat : Seat → Bool → Record → Seat
 stopped_seat seat kept x = record seat { records = if kept then seat.records ++ x ∷ [] else seat.records; up = false; armed = None }
 
@@ -258,7 +258,7 @@ called_in s w m call = called_over (by_records s) s.rules w m call
 
 -- ---- members
 
--- whether it holds of a member; false if there is no such member
+-- whether the test holds of a member; false if there is no such member
 abbrev pub seat_is : {S : Type 0} → (S → Bool) → Option S → Bool
 seat_is test None = false
 seat_is test (Some seat) = test seat
@@ -298,7 +298,7 @@ says_first s says seats = says_over (by_records s) says seats
 
 -- ---- entries
 
--- the next entry of a member's sequence, up to the end of its epoch
+-- the next entry of a member's sequence, as a call; none once its epoch has ended
 abbrev pub numbered_call : ℕ → Entry → Call
 numbered_call number e = sees number (messages.entry.spell e)
 
@@ -321,7 +321,7 @@ if_called k r w m (Some call) = called_over k r w m call
 abbrev pub called_if : Setting → World → ℕ → Option Call → World
 called_if s w m call = if_called (by_records s) s.rules w m call
 
--- a member takes so many entries, as far as there are any
+-- the world after a member took its next n entries, or as many as there are
 abbrev pub sees_over : {S : Type 0} → Seating S → Rules → ℕ → WorldOf S → ℕ → WorldOf S
 sees_over k r zero w m = w
 sees_over k r (suc n) w m = sees_over k r n (if_called k r w m (next_over k w m)) m

@@ -1,4 +1,5 @@
-//! That runs, closes, turns, Ends and acknowledgements look at no seal and no stake, and that the last two change nothing.
+//! Lemmas: runs, closes, turns, Ends and acknowledgements depend on no seal and no stake; Ends and acknowledgements
+//! leave the member as it was.
 
 ghost use Rattle.std.specs.Prelude.{◌≡◌, None};
 ghost use Rattle.digest_core.specs.declared.Digest.{Digest};
@@ -7,7 +8,7 @@ ghost use Rattle.protocol_spec.specs.Member.Calls.{ack_answer, acks, called, clo
 ghost use Rattle.protocol_spec.specs.Member.Member.{Member};
 ghost use Rattle.world_spec.specs.Seats.{Seated, behind, due_at};
 
-/// The rules play no part in a run: its answer, its record and the state after it are those of any other rules.
+/// The rules play no part in a run: its answer, its record and the state after it are the same under any other rules.
 #[tactic(auto, using(crate::proofs::RulesAside::run_answer_alike, crate::proofs::RulesAside::run_due_alike, crate::proofs::RulesAside::run_called_alike))]
 pub fn runs_need_no_rules()
     ensures answer { (r r' : Rules) (m : Member) → run_answer r m ≡ run_answer r' m }
