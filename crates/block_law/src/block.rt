@@ -28,7 +28,7 @@ pub fn caps_are_kept()
     ensures { CapsAreKept }
 {}
 
-/// Of the currency that pays gas, nothing is made or destroyed but the gas.
+/// If the currency that pays gas has no cap, nothing of it is made, and only the gas is destroyed.
 pub fn gas_currency_is_kept()
     ensures { GasCurrencyIsKept }
 {}

@@ -1,8 +1,8 @@
-//! Laws over the execution of a block, each for every transaction and all objects: what it keeps, and what it makes
-//! of shared objects.
+//! Theorems about the execution of a block, each for every transaction and all objects: what it keeps, and what it
+//! makes of shared objects.
 //!
-//! Laws over one thread: what the execution of a list of transactions keeps, what a list in another order leaves, and
-//! what admission makes of a sequence.
+//! Theorems about one thread: what the execution of a list of transactions keeps, what a list in another order leaves,
+//! and what admission makes of a sequence.
 #![tactic(auto)]
 
 mod admissions;

@@ -12,12 +12,12 @@ pub fn money_moves_in_sequence()
     ensures { MoneyMovesInSequence }
 {}
 
-/// If there is as much of a currency as its caps say, there still is.
+/// If the objects hold as much of a currency other than that of gas as its caps say, they still do afterwards.
 pub fn backed_currencies_stay_backed()
     ensures { BackedCurrenciesStayBacked }
 {}
 
-/// Of the currency that pays gas nothing is made, and only the gas of the executions goes.
+/// If the currency that pays gas has no cap, nothing of it is made, and only the gas of the executions goes.
 pub fn only_gas_goes()
     ensures { OnlyGasGoes }
 {}

@@ -1,5 +1,5 @@
 //! Two nodes on threads and a wallet, which asks them over channels: a payment that both execute, a second spend of its coin that
-//! both refuse, and the end of the epoch. Standard input has the two transactions under alice's seals, of one length.
+//! both refuse, and the end of the epoch. Standard input has the two transactions under alice's seals, equally long.
 #![tactic(auto)]
 
 ghost use Rattle.std.specs.Thread.{IsSync};

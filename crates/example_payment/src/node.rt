@@ -11,7 +11,7 @@ use sui_validator::{Error, Member, Workers};
 
 type Node = Member<MemJournal, KeyedSeal>;
 
-/// What a node says to what it is asked.
+/// What a node answers: a statement under its seal, or a refusal.
 pub type Said = Result<Sealed, Error>;
 
 /// A node of a committee of two, in an epoch that opens with a coin of alice.

@@ -29,8 +29,8 @@ abbrev pub StandsForGood : Setting → List Event → ℕ → Digest → Digest 
 StandsForGood s events epoch tx effects = (front back : List Event) → events ≡ front ++ back → (m : ℕ) (seat : Seat) → slice_get (world_after s front).seats m ≡ Some seat
     → epoch < (member_in s seat).epoch → StandsIn (built (member_in s seat)) epoch tx effects
 
--- what a quorum acknowledged, faulty members among it, stands for good, whether it did so before a member left the epoch or
--- after it
+-- what a quorum acknowledged, which may include faulty members, stands for good, whether it did so before a member left
+-- the epoch or after it
 abbrev pub FinalStands : Type 0
 FinalStands = (s : Setting) (events : List Event) → IsHonestRun s events → AreApart s.opening
     → (epoch : ℕ) (tx effects : Digest) (members : List ℕ) → IsFinal s (world_after s events) epoch tx effects members → StandsForGood s events epoch tx effects

@@ -108,7 +108,7 @@ FollowersStandAtOpenings = (s : Setting) (events : List Event) → IsHonestRun s
 abbrev pub FollowersOpenAlike : Type 0
 FollowersOpenAlike = (s : Setting) (events : List Event) → IsHonestRun s events → AreApart s.opening → (a b : Member) → IsInRun s events a → IsInRun s events b → IsOpenedAlike s events a b
 
--- the same laws for every run of every schedule: its set-up always opens with objects of different ids
+-- the same theorems for every run of every schedule: its set-up always opens with objects of different ids
 abbrev pub FollowedInSchedules : Type 0
 FollowedInSchedules = (trust : Trust) (lines : List Setup) (events : List Event) → IsHonestRun (setting_of trust lines) events → (m : Member) → IsInRun (setting_of trust lines) events m → IsFollowed (setting_of trust lines) events m
 

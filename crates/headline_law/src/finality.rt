@@ -1,9 +1,9 @@
 //! Under the run assumptions, what a quorum acknowledged is never undone.
 ghost use Rattle.headline_law.specs.Final.{FinalIsAgreed, FinalOnce, FinalStands, FinalStandsInSchedules};
 
-/// A transaction whose effects a quorum acknowledged, faulty members among it, stands with these effects in a checkpoint of
-/// its epoch at every member that left the epoch, and no checkpoint of the epoch there has it with others; whether they
-/// acknowledged it before the member left the epoch or after it.
+/// A transaction whose effects a quorum acknowledged, which may include faulty members, stands with these effects in a
+/// checkpoint of its epoch at every member that left the epoch, and no checkpoint of the epoch there has it with
+/// others. It does not matter whether the quorum acknowledged it before the member left the epoch or after.
 pub fn final_stands()
     ensures { FinalStands }
 {}

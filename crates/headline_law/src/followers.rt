@@ -2,8 +2,8 @@
 ghost use Rattle.headline_law.specs.Followed.{CanBeFollowedInSchedules, ComeThroughInSchedules, FollowedInSchedules, FollowersComeThrough, FollowersOpenAlike, FollowersStandAtOpenings, HonestCheckpointsAreFollowed, HonestCheckpointsCanBeFollowed, HonestCheckpointsWantOnlyMemory, LookedUpIsHanded, OnlyMemoryInSchedules, OpenedAlikeInSchedules, StandInSchedules};
 
 /// Under the run assumptions a follower that opened with the objects of the set-up applies the checkpoints that a member
-/// has built, each handed in with the transactions of the run that have its items' digests; so it refuses one only if it runs out of
-/// memory. And each item has such a transaction.
+/// has built, each handed in with the transactions of the run that have its items' digests; it refuses one only if it
+/// runs out of memory. Each item has such a transaction.
 pub fn honest_checkpoints_are_followed()
     ensures applied { HonestCheckpointsAreFollowed }
     ensures memory { HonestCheckpointsWantOnlyMemory }

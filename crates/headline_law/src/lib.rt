@@ -49,11 +49,15 @@ pub use statements::{
 };
 pub use versions::{assigned_versions_rise, versions_are_one_chain};
 
-/// After each prefix of the lines of a schedule no member cast votes of one epoch on one version for transactions of
-/// different digests. As long as under a third of the stake is faulty, no statement is forged and no digests collide: no two
-/// certified transactions of an epoch consume one version; every member opened its epoch with what one thread leaves, and
-/// built that thread's checkpoints; a run leaves nothing; and the sums are kept. Then too, what a quorum acknowledged stands
-/// in a checkpoint of its epoch at each member that has left it, and so does what a `final by` line of the report names.
+/// After each prefix of the lines of a schedule, no member has cast votes in one epoch for transactions of different
+/// digests that consume one version. And as long as under a third of the stake is faulty, no statement is forged and no
+/// digests collide:
+/// - no two certified transactions of an epoch consume one version;
+/// - every member opened its epoch with what one thread leaves, and built that thread's checkpoints;
+/// - a run leaves no certificate absent or unfit;
+/// - the opening objects hold as much of each currency as its caps say, and of the currency of gas only gas goes;
+/// - what a quorum acknowledged stands in a checkpoint of its epoch at each member that has left it, and so does what a
+///   `final by` line of the report names.
 pub fn headline()
     ensures { EveryMomentHolds }
 {}

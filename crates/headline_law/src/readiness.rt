@@ -67,14 +67,14 @@ pub fn nothing_is_ready_behind_a_run()
     ensures { NothingIsReadyBehindARun }
 {}
 
-/// What is ready before a run, or after some of its rounds, is executed by it, whatever is held and was executed: but for
-/// what writes a key that a certificate held before it writes in the same round.
+/// A run executes whatever is ready before it or after some of its rounds, except a certificate that writes a key which
+/// an earlier held certificate writes in the same round. This is so whatever is held and was executed.
 pub fn what_is_ready_is_executed()
     ensures { WhatIsReadyIsExecuted }
 {}
 
-/// A member that is not halted, and has room for a record, answers a run with all that is ready then or after some of
-/// its rounds (but for what is kept out as above), and has executed it: with no assumption on the run of the world.
+/// A member that is not halted, and has room for a record, executes in a run all that is ready then or after some of
+/// its rounds (except what is kept out as above), and its answer names it. No run assumption is needed.
 pub fn runs_are_complete()
     ensures { RunsAreComplete }
 {}
@@ -85,7 +85,7 @@ pub fn runs_execute_ready()
     ensures { RunsExecuteReady }
 {}
 
-/// Under the run assumptions, a member at which nothing is ready has nothing left.
+/// Under the run assumptions, a member at which nothing is ready has nothing left to report.
 pub fn nothing_is_left()
     ensures { NothingIsLeft }
 {}
@@ -113,7 +113,7 @@ pub fn runs_build_all()
     ensures { RunsBuildAll }
 {}
 
-/// So no turn is refused after a run for a certificate that waits: nothing that a member admitted keeps it in its epoch.
+/// So after a run no turn is refused because a certificate waits: nothing that a member admitted keeps it in its epoch.
 pub fn no_turn_waits_behind_a_run()
     ensures { NoTurnWaitsBehindARun }
 {}

@@ -27,8 +27,8 @@ pub fn reports_are_calm()
 {}
 
 /// In every run, whichever members are faulty: a `run` line executes all that its member holds and that is ready before the
-/// line or after some of its rounds, and the report has the effects; but for what writes a key that a certificate held before it
-/// writes in the same round.
+/// line or after some of its rounds, and the report has the effects. The exception is a certificate that writes a key
+/// which an earlier held certificate writes in the same round.
 pub fn ready_is_always_executed()
     ensures { ReadyIsAlwaysExecuted }
 {}

@@ -14,7 +14,7 @@ use Rattle.kothaysu.specs.declared.answer.Bytes32.{Bytes32}
 abbrev pub said : ℕ → ℕ → ℕ → ℕ → Answer
 said code cause first second = record { code = code; cause = cause; first = first; second = second }
 
--- the answer for a refusal of the light client: its code, and what it says more
+-- the answer for a refusal of the light client: its code, and the numbers that go with it
 abbrev pub refused : Refusal → Answer
 refused refusal.OutOfMemory = said 1 0 0 0
 refused refusal.TooLarge = said 2 0 0 0
@@ -43,7 +43,7 @@ abbrev pub by_committee : {A : Type 0} → Result (List ℕ) CommitteeRefusal �
 by_committee (Ok stakes) asks = as_answer (asks stakes)
 by_committee (Err why) asks = Err (no_committee why)
 
--- the answer to a question about the committee of these stakes; if they are none, the answer that says why
+-- the answer to a question about the committee of these stakes; if they make no committee, the answer that says why
 abbrev pub for_committee : {A : Type 0} → List ℕ → (List ℕ → Result A Refusal) → Result A Answer
 for_committee stakes asks = by_committee (committee_of stakes) asks
 

@@ -36,7 +36,7 @@ pub(crate) fn said(code: u32, cause: u32, first: u64, second: u64) -> Answer
     }
 }
 
-/// The answer for a refusal of the light client: its code, and what it says more.
+/// The answer for a refusal of the light client: its code, and the numbers that go with it.
 pub(crate) fn refused(refusal: Refusal) -> Answer
     ensures { result ≡ refused refusal }
 {

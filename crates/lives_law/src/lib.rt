@@ -1,4 +1,4 @@
-//! What a member's process has said over its lives on one file, none of them takes back.
+//! Nothing that a member's process has said in its lives on one file is taken back by any of them.
 #![tactic(auto)]
 
 mod certified;

@@ -24,7 +24,7 @@ pub enum Got {
     Line(Seq<u8>),
     /// A line that is too long, which was read to its end.
     TooLong,
-    /// The end of input. What stood after the last line and has no end of its own is not a line.
+    /// The end of input. Bytes that stand after the last line end are not a line.
     End,
 }
 

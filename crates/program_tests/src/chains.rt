@@ -1,4 +1,5 @@
-//! What is said of a chain beside a world. The links are encoded and sealed by the functions of `conformance/chains.py`.
+//! How a chain agrees with what the members of a world have built. The links are encoded and sealed by the functions of
+//! `conformance/chains.py`.
 
 use crate::members::sealer;
 use crate::same::same;
@@ -55,7 +56,7 @@ const FEW: &str =
 000000000000010200000000751c807a67de23d3e40c711843e30d5db3396e8a49a0e3ea9c88d515f0b82529\
 02000000414a6426c3f066c62f390ca525e9c0fc051f2f1484ac9f2faee6780459833b76";
 
-/// What is said beside a world of the chain that hexadecimal digits encode.
+/// How the chain that hexadecimal digits encode agrees with a world; none if there is no answer.
 fn said_in(alloc: Global, world: &World, digits: &str) -> Option<Agreement> {
     let bytes = hex::decode(alloc, digits).ok()?;
     let Ok(chain) = decode_chain(alloc, bytes.as_slice()) else {
@@ -79,7 +80,7 @@ fn said_after<R: Threads + Sync>(
     said
 }
 
-/// A link of which no honest member that is up has built another checkpoint differs from none.
+/// A link counts as differing only if an honest member that is up has built another checkpoint with its number.
 #[test]
 fn a_chain_is_compared_with_what_members_built(rt: HostRuntime) {
     let rows = [

@@ -1,4 +1,4 @@
-//! Votes collected as no line asks for them: of a member named twice, of none, and of another epoch.
+//! Votes collected in ways that no line asks for: of a member named twice, of none, and of another epoch.
 
 use crate::same::same;
 use chain_messages::Statement;

@@ -1,4 +1,4 @@
-//! What tests assert by: a call is proved in a tenth of the time that a macro takes.
+//! The assertions of tests, as functions: a call is proved in a tenth of the time that a macro takes.
 
 ghost use Rattle.std.specs.Prelude.{◌≡◌, true};
 

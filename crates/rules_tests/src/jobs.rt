@@ -17,7 +17,7 @@ pub(crate) struct Mix {
     pub(crate) factor: u32,
 }
 
-/// What a job has of its own: 1, so that a chain counts up, or its task's number, beside 31 times what comes in first.
+/// What a job adds of its own: 1, so that a chain counts up; or its task's number, and 31 times what comes in first.
 #[derive(Clone, Copy)]
 pub(crate) enum Own {
     One,

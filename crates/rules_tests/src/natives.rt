@@ -1,4 +1,4 @@
-//! What of the natives no block can show: how they take their arguments, and a cap whose supply is below a coin of its
+//! What no block can show of the natives: how they take their arguments, and a cap whose supply is below a coin of its
 //! currency.
 
 ghost use Rattle.std.specs.Prelude.{◌≡◌, ◌∷◌, [], IfOk};

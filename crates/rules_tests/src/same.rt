@@ -1,4 +1,4 @@
-//! Assertions as calls: each call of a macro is proved where it stands, and these once.
+//! Assertions as functions: a macro is proved again at each use, and these once.
 
 ghost use Rattle.std.specs.Prelude.{◌≡◌, true};
 

@@ -22,7 +22,7 @@ fn add_line(alloc: Global, text: &mut String, number: u32) -> Result<(), AllocEr
     text.push_str(line.as_str())
 }
 
-/// 65,535 transactions after two lines of the set-up, and one more. That its name is not new would come later.
+/// 65,535 transactions after two lines of the set-up, and one more. Its name is not new, but that is tried later.
 fn too_many(alloc: Global) -> Result<String, AllocError> {
     let mut text = String::new(alloc);
     text.push_str("member 1 honest\ncoin g0 alice 5\n")?;

@@ -1,4 +1,4 @@
--- First laws of every run.
+-- First theorems of every run.
 use Rattle.std.specs.Prelude.{◌≡◌, ◌≤◌, ℕ, List, map, length, None, Ok}
 use Rattle.chain_types.specs.declared.objects.Object.{Object}
 use Rattle.journal_core.specs.declared.records.RanItem.{RanItem}

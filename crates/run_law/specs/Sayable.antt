@@ -1,5 +1,5 @@
 -- The schedules that a text can say: each word has its form and each number its range, the lines may follow one
--- another, and one makes a member. Source: this profile.
+-- another, and at least one makes a member. Source: this profile.
 use Rattle.std.specs.Prelude.{◌≡◌, ℕ, ◌^◌, ◌<◌, ◌≤◌, Bool, true, false, List, [], ◌∷◌, length, Option, Some, None, Result, Ok, Err, codes}
 use Rattle.std.specs.List.{list_any, AllByRecursion}
 use Rattle.std.specs.Str.{bytes_eq}

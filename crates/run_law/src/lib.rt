@@ -1,6 +1,6 @@
-//! Laws over runs and records: reports, restarts and workers, encodings, and the view that code has of a world.
+//! Theorems about runs and records: reports, restarts and workers, encodings, and the view that code has of a world.
 //!
-//! Laws over the text of a schedule, and over the run of every schedule that a text says.
+//! Theorems about the text of a schedule, and about the run of every schedule that a text says.
 #![tactic(auto)]
 
 mod honesty;

@@ -22,7 +22,7 @@ pub fn workers_change_nothing()
     ensures { WorkersChangeNothing }
 {}
 
-/// Records whose runs name no effects give the state of those that do.
+/// Run records of the older form, which name no effects, give the same state as those that name them.
 pub fn older_runs_are_read()
     ensures { OlderRunsAreRead }
 {}

@@ -42,7 +42,8 @@ pub fn steps_of_a_world()
     ensures posts { (trust : Trust) (s : Setting) (w : World) (sc : Scene) → Shows trust s w sc → length sc.posts ≡ length w.seats }
 {}
 
-/// Each line but a restart does to what code keeps of a member what it does to its records, and gives the same lines.
+/// Each line but a restart changes what code keeps of the members just as it changes their records, and gives the same
+/// lines of the report.
 pub fn steps_of_posts()
     ensures steps { (s : Setting) (w : World) (e : Event) → is_restart e ≡ false → reseated (post_of s) (happens s w e) ≡ happens_over (by_posts s.seal s.rules) s (reseated (post_of s) w) e }
     ensures lines { (s : Setting) (w : World) (e : Event) → is_restart e ≡ false → lines_of s w e ≡ lines_over (by_posts s.seal s.rules) s (reseated (post_of s) w) e }
@@ -70,8 +71,9 @@ pub fn bytes_of_calls()
     ensures entries { (number : ℕ) (e : Entry) → messages.entry.fits e → ReadsFit (sees number (messages.entry.spell e)) }
 {}
 
-/// In every run whose entries can be kept each member starts from its records: if what is read from
-/// the bytes of its calls fits, and so in each run that a text says, after each prefix of its lines.
+/// In every run whose entries can be kept, each member starts from its records if what is read from the bytes of its
+/// calls fits its type. So it does in each run that a text says, after each prefix of its lines whose entries can be
+/// kept.
 pub fn restarts_of_a_run()
     ensures run { (s : Setting) (events : List Event) → Each ReadsFit (all_of calls_of s events (new_world s)) → AreKeepable (world_after s events).sequences → Restarts s (world_after s events) }
     ensures read { (text : List ℕ) (t : Schedule) → schedule_of text ≡ Ok t → (secret : List ℕ) → (front rest : List Event) → t.events ≡ front ++ rest → AreKeepable (world_after (keyed_setting secret t) front).sequences → Restarts (keyed_setting secret t) (world_after (keyed_setting secret t) front) }

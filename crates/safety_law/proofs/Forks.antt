@@ -1,4 +1,4 @@
--- The certificates that a member holds are valid, of its epoch, and of different transactions; so by the law of one
+-- The certificates that a member holds are valid, of its epoch, and of different transactions; so by the theorem of one
 -- owner no two of them consume one version.
 use Rattle.std.proofs.Common.{inl, inr, refl, sym, subst, ap, ◌∙◌}
 use Rattle.std.proofs.lemmas.Bool.{eqb-true}

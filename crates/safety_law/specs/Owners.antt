@@ -41,8 +41,8 @@ FormedIsVotedFor = (s : Setting) (events : List Event) (c : Certificate) → Has
 abbrev pub IsFormedOrValid : Setting → List Event → Certificate → Type 0
 IsFormedOrValid s events c = Has (all_formed s events) c ⊎ (Has (all_delivered s events) c × (cert_refusal s.rules c ≡ None))
 
--- each certificate that is certified was formed by a line, or is a valid one that a line delivered; the laws below are
--- of all of these
+-- each certificate that is certified was formed by a line, or is a valid one that a line delivered; the theorems
+-- below hold of all of these
 abbrev pub CertifiedIsFormedOrValid : Type 0
 CertifiedIsFormedOrValid = (s : Setting) (events : List Event) (c : Certificate) → IsCertified s events c → IsFormedOrValid s events c
 

@@ -49,13 +49,14 @@ pub fn versions_are_chains()
     ensures { VersionsAreChains }
 {}
 
-/// In each epoch that a member has left, all that went of the currency that pays gas is the gas of the checkpointed
-/// transactions.
+/// If the set-up has no cap of the currency that pays gas, and every gas coin that paid held an amount: in each epoch
+/// that a member has left, all that went of this currency is the gas of the checkpointed transactions.
 pub fn only_gas_leaves()
     ensures { OnlyGasLeaves }
 {}
 
-/// Of each other currency the opening objects of every member hold as much as their caps say.
+/// If the set-up's objects hold as much of another currency as their caps say, and every gas coin that paid held an
+/// amount, the opening objects of every member hold as much of it as their caps say.
 pub fn currencies_are_backed()
     ensures { CurrenciesAreBacked }
 {}

@@ -1,7 +1,7 @@
-//! Laws over every member in every run: quorums intersect, no version is in two votes or two certified transactions, and a
-//! journal gives the member back.
+//! Theorems about every member in every run: quorums intersect, no version is in two votes or two certified
+//! transactions, and a journal gives the member back.
 //!
-//! Laws over several members: what they admit, execute and checkpoint, and how they open each epoch.
+//! Theorems about several members: what they admit, execute and checkpoint, and how they open each epoch.
 #![tactic(auto)]
 
 mod agreement;

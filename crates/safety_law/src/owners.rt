@@ -12,8 +12,8 @@ pub fn formed_is_voted_for()
     ensures { FormedIsVotedFor }
 {}
 
-/// Each certificate that is certified was formed by a line, or is a valid one that a line delivered. The laws that
-/// follow are of all of these.
+/// Each certificate that is certified was formed by a line, or is a valid one that a line delivered. The theorems
+/// below hold of all of these.
 pub fn certified_is_formed_or_valid()
     ensures { CertifiedIsFormedOrValid }
 {}

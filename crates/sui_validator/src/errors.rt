@@ -36,11 +36,11 @@ pub enum Error {
     Disk(DiskRefusal),
     /// Bytes are not a value.
     Unread(Unread),
-    /// A value has no bytes.
+    /// A value could not be encoded.
     Encode(EncodeRefusal),
-    /// Statements make no certificate, or nothing final.
+    /// Votes make no certificate, or acknowledgements make nothing final.
     Gather(GatherRefusal),
-    /// What a light client says.
+    /// A refusal of the light client.
     Client(Refusal),
     /// Bytes could not be read or written.
     Outside(OutFault),

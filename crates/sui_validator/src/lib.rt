@@ -5,8 +5,8 @@
 //! - [`wallet`]: certificates of votes, and what acknowledgements make final;
 //! - [`client`]: a light client.
 //!
-//! One equation for each call says what a member answers, keeps and becomes, over the definitions of the Sui Lutris
-//! protocol: those of `validator_core`, of which this is the edge that requires nothing of a caller.
+//! One equation for each call, over the definitions of the Sui Lutris protocol, says what a member answers, keeps and
+//! becomes. The calls are those of `validator_core`, but here nothing is required of a caller.
 #![tactic(auto)]
 
 pub mod client;

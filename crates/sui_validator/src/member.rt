@@ -56,9 +56,9 @@ impl<J: Journal, S: Sealer> Model for Member<J, S> {
 
 impl<J: Journal, S: Sealer> Member<J, S> {
     /// Asks the member for its vote for the transaction that the bytes encode. A new vote's record stands in the journal before
-    /// the vote is given. `KeepFault` comes only if a record is due, running out of memory only if the member is up and met
-    /// no fork; so neither replaces `Down` or `Halted`, here and in the calls that follow. After both the member is down, and
-    /// nothing is left of its state: looks find what a member of no records has that opened with nothing.
+    /// the vote is given. `KeepFault` comes only if a record is due, `OutOfMemory` only if the member is up and met no
+    /// fork; so neither replaces `Down` or `Halted`, here and in the calls that follow. After either of them the member
+    /// is down and its state is gone: looks find what a member without records has whose epoch opened with no objects.
     pub fn vote(&mut self, bytes: &[u8]) -> Result<Voted, VoteRefusal>
         ensures answer { Votes (S.accepts self.old.sealer) self.old.seat.member (vote_said (rules_of_seat self.old.seat (S.accepts self.old.sealer)) self.old.seat bytes.now) result }
         ensures state { Behaves (rules_of_seat self.old.seat (S.accepts self.old.sealer)) (votes bytes.now) self.old.seat self.new.seat (vote_ended result) }

@@ -29,7 +29,7 @@ pub enum OpenRefusal {
     ObjectTwice,
     /// A record could not be read, and the journal's count of faults rose.
     ReadFault,
-    /// The first record that does not decode (1), or that no call would have appended (2).
+    /// The place of the first record that does not decode (`why` 1), or that no call would have appended (`why` 2).
     BadRecord { place: u64, why: u8 },
     OutOfMemory,
 }
@@ -97,8 +97,9 @@ fn start<J: Journal, S: Sealer>(
 }
 
 impl<J: Journal, S: Sealer> Member<J, S> {
-    /// Opens the member of this number from what its journal holds, nothing for a new one: in an epoch 0 that opens with these
-    /// objects, under a limit of writers of one shared object between two marks, or none. The journal stays as it is.
+    /// Opens the member of this number from what its journal holds, which is nothing for a new member. Epoch 0 opens
+    /// with these objects; `writers` limits how many transactions may write one shared object between two marks, if it
+    /// is given. The journal stays as it is.
     pub fn open(
         alloc: Global,
         number: u32,

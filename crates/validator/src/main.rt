@@ -3,7 +3,7 @@
 //! makes FILE.
 //!
 //! [`validator_process::validator`] is the program over any source, sink and disk; its clauses are what is promised. `main`
-//! hands it the files that the words name and the real standard streams, with no buffer behind standard output, ends with
+//! hands it the files that the words name and the real standard streams (standard output is not buffered), ends with
 //! its status, and says on standard error what a status other than 0, 3 and 8 means.
 #![tactic(auto)]
 
@@ -26,7 +26,7 @@ fn words_of(rt: &HostRuntime) -> io::Result<Vec<String>> {
     Ok(words)
 }
 
-/// The status if the words cannot be had: words that are not UTF-8 are wrong words.
+/// The status if the words cannot be read: words that are not UTF-8 count as wrong words.
 fn status_of_words(error: &io::Error) -> u8 {
     match error.kind() {
         io::ErrorKind::InvalidData => 2,
@@ -46,7 +46,7 @@ fn message(status: u8) -> Option<&'static str> {
     }
 }
 
-/// The journal file: one that is to be made may be missing.
+/// Opens the journal file, which may be missing if the journal is to be made.
 fn open_file(rt: &HostRuntime, task: Task, path: &str) -> Result<FileDisk, OpenFault> {
     match task {
         Task::Make { .. } => FileDisk::open(rt, path, Missing::IsMade),

@@ -26,7 +26,8 @@ pub record IsUp (scene : Scene) (m : ℕ) (p : Process) : Type 0 where
   pub lived : LivedWhole program_trust.accepts scene m p.asked p.unread p.held p.holds (kept_in (Some p.first)) lists p.status
       ⊎ LivedCut program_trust.accepts scene m p.asked p.unread p.held p.holds (kept_in (Some p.first)) lists p.read_before p.read_faults p.write_before p.write_faults opened p.disk_faults p.status
 
--- a fault of the set-up or of the disk, or of memory, stopped it before its first line: nothing is read and written
+-- a fault of the set-up or of the disk, or of memory, stopped it before its first line: no request is read, and nothing
+-- is written
 pub record IsStopped (p : Process) : Type 0 where
   pub why : Stop
   pub cause : HasCause why p.setup_before p.setup_faults 0 0 p.disk_before p.disk_faults
@@ -40,7 +41,7 @@ pub record IsStarted (m : ℕ) (text : List ℕ) (p : Process) : Type 0 where
   pub genesis : genesis_of program_trust m text ≡ Ok scene
   pub starts : IsUp scene m p ⊎ IsStopped p
 
--- the law of the first start: from what a making with status 0 left, also by a crash after it, no line refuses the
+-- the theorem of the first start: after a making with status 0, even if a crash followed it, no line refuses the
 -- start
 abbrev pub MadeStarts : Type 0
 MadeStarts = (m : ℕ) (text : List ℕ) → m ≤ 63 → length text ≤ longest_text → (made next : Process) → HasMade m text made → Follows made.last next.first → IsProcess m text next → IsStarted m text next

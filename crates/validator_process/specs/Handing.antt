@@ -34,9 +34,9 @@ pub record IsAnswerHanded (scene : Scene) (m : ℕ) (p : Process) : Type 0 where
   pub writes : AppendsFront said p.holds handed.text
   pub stands : (file : List ℕ) → IsLeft p.last file → IsFront (kept_of 65 m p.first.now.reads ++ records_left program_trust.accepts seat (before ++ handed ∷ [])) (kept_of 65 m file)
 
--- The law "kept before said": when a line is handed to the sink, the records on which it rests stand in each file that
--- a crash may leave. It is said of the process that stops with status 5 because its sink fails at that line, perhaps
--- at the first byte.
+-- The theorem "kept before said": when a line is handed to the sink, the records on which it rests stand in each file
+-- that a crash may leave. It is said of the process that stops with status 5 because its sink fails at that line,
+-- perhaps at the first byte.
 abbrev pub KeptFirst : Type 0
 KeptFirst = (m : ℕ) (text : List ℕ) (scene : Scene) → m ≤ 63 → length text ≤ longest_text → genesis_of program_trust m text ≡ Ok scene
     → (p : Process) → IsProcess m text p → p.status ≡ 5 → IsFirstHanded p ⊎ IsAnswerHanded scene m p

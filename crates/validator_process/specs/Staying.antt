@@ -17,11 +17,11 @@ IsOwn m text file = head_of_file m (genesis_digest text) file ≡ head.Own
 abbrev pub LeavesOwn : ℕ → List ℕ → History → Type 0
 LeavesOwn m text h = (file : List ℕ) → IsLeft h file → IsOwn m text file
 
--- the law of `init`: a making with status 0 leaves the head in each file that a crash may leave
+-- the theorem of `init`: a making with status 0 leaves the head in each file that a crash may leave
 abbrev pub MadeLeavesHead : Type 0
 MadeLeavesHead = (m : ℕ) (text : List ℕ) → length text ≤ longest_text → (made : Process) → HasMade m text made → LeavesOwn m text made.last
 
--- the law of later starts: processes one after the other on a disk with that head all find it, and leave it
+-- the theorem of later starts: processes that run one after the other on a disk with that head all find it and leave it
 abbrev pub HeadStays : Type 0
 HeadStays = (m : ℕ) (text : List ℕ) (h : History) (ps : List Process) (file : List ℕ) → LeavesOwn m text h → AreProcesses m text h ps file
     → Each (λ (p : Process). IsOwn m text p.first.now.reads) ps × IsOwn m text file

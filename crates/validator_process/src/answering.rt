@@ -114,7 +114,7 @@ fn is_call(request: &Request) -> bool
     }
 }
 
-/// The answer to a request, without the end of its line. The record that it rests on is kept then.
+/// The answer to a request, without the end of its line. At `Ok` the keeper has the record that is due, if any.
 #[tactic(auto, using(crate::proofs::Moving::look_moves, crate::proofs::Moving::look_owes, validator_core::proofs::Settling::keeps_same))]
 pub(crate) fn answer<R: Threads + Sync, D: Keeper, S: Sealer>(
     rt: &R,

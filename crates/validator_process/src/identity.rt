@@ -11,7 +11,7 @@ use outside::Failed;
 use std::alloc::Global;
 use wire_bcs::{OutOfMemory, Seq};
 
-/// The list that has the first record: one after those of the members.
+/// The list of the first record, which comes after the lists of the members.
 pub(crate) const IDENTITY_LIST: u32 = 64;
 
 /// How many lists a journal has.
@@ -20,7 +20,7 @@ pub(crate) const LISTS: u32 = 65;
 /// The tag of the digest of a set-up: `J`.
 const TAG_GENESIS_TEXT: u8 = 0x4a;
 
-/// The bytes of the first record in the file, its gate, length and list before them.
+/// How many bytes the first record takes in the file, with the gate, length and list before it.
 pub(crate) const HEAD_SIZE: u64 = 65;
 
 /// The digest of the text of a set-up. Takes no memory.
@@ -55,7 +55,8 @@ pub(crate) enum Head {
     OtherGenesis,
 }
 
-/// Whether the bytes are an open gate of the first list with a record of 56 bytes.
+/// Whether the bytes are an open gate, the length 56 and the list 64, as they stand before the first record of a
+/// journal.
 fn is_front(bytes: &[u8]) -> bool
     ensures { result ≡ bytes_eq bytes.now front }
 {

@@ -1,11 +1,12 @@
-//! One member of a committee as a process: it keeps each record in its journal file before it answers, is killed at any
-//! moment, starts again from the file, and goes on.
+//! One member of a committee as a process: it keeps each record in its journal file before it answers, can be killed at
+//! any moment, starts again from the file, and goes on.
 //!
 //! [`validator`] is the program over any source, sink and disk. `init` makes a journal: its first record says of which
 //! member and of which set-up it is. A start reads that record before anything is written, starts the member from its
-//! records, writes one line, and then answers requests, a line each, until the source ends. A member answers with its
-//! record on paper; the process appends the record to the log, and hands the answer to the sink once it is in the file for
-//! good. A fault of the file, of memory or of a stream ends the process, and nothing that was not kept is answered.
+//! records, writes one line, and then answers requests, a line each, until the source ends. A member writes the record
+//! of an answer to a keeper in memory; the process appends it to the log, and hands the answer to the sink once the
+//! record is in the file for good. A fault of the file, of memory or of a stream ends the process, and no answer is
+//! handed out whose record was not kept.
 #![tactic(auto)]
 
 mod answering;
