@@ -55,7 +55,7 @@ pub use versions::{assigned_versions_rise, versions_are_one_chain};
 /// - no two certified transactions of an epoch consume one version;
 /// - every member opened its epoch with what one thread leaves, and built that thread's checkpoints;
 /// - a run leaves no certificate absent or unfit;
-/// - the opening objects hold as much of each currency as its caps say, and of the currency of gas only gas goes;
+/// - of the currency of gas only gas goes, and the opening objects hold as much of each other one as its caps say;
 /// - what a quorum acknowledged stands in a checkpoint of its epoch at each member that has left it, and so does what a
 ///   `final by` line of the report names.
 pub fn headline()
