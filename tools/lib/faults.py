@@ -7,6 +7,9 @@ import schedules
 from language import ARGUMENT, COMMANDS, FORMS, INPUTS, KINDS, MORE, NATIVES, PLACES, VECTORS
 from meanings import short
 
+# What some editors put before a text, and how to take it out.
+MARK, WITHOUT_MARK = b"\xef\xbb\xbf", "save it without the mark, or make such a copy: tail -c +4 FILE > COPY"
+
 
 def names_before(lines, number):
     """The objects and the transactions that lines before this one name."""
@@ -40,6 +43,8 @@ def bad_byte(line, lines):
     if line.text.endswith("\r") and all(32 <= ord(it) <= 126 for it in line.text[:-1]):
         count = sum(it.text.endswith("\r") for it in lines)
         return f"the file has Windows line ends: a carriage return stands before the line feed, in {count} lines in all", "save it with line feeds only, or make such a copy: tr -d '\\r' < FILE > COPY"
+    if line.number == 1 and line.text.startswith(MARK.decode("latin-1")):
+        return "the file begins with a byte order mark, three bytes before its first word", WITHOUT_MARK
     at = next((place for place, byte in enumerate(line.text, 1) if not 32 <= ord(byte) <= 126), 0)
     what = {"\t": ", a tab: write a space for it", "\r": ", a carriage return"}.get(line.text[at - 1], "") if at else ""
     return "it holds a byte that is not a printable ASCII character", f"its character {at} is byte {ord(line.text[at - 1]):02x} in hexadecimal{what}" if at else ""
@@ -165,13 +170,23 @@ def role_of(line):
     return "write fvote for a faulty member, and the other lines for honest ones"
 
 
+def no_member(schedule, lines):
+    """Why no line makes a member."""
+    other = next((it for it in lines if it.text.lower().lstrip().startswith("member")), None)
+    if schedule.startswith(MARK):
+        return ["The file begins with a byte order mark, three bytes before its first word.", f"    What to change: {WITHOUT_MARK}."]
+    if other:
+        return [f"No line begins with `member` and a space; line {other.number} begins with `{other.text[:20]}`.", "    What to change: write `member 1 honest`, in lower case, with nothing before it and one space between words."]
+    return ["No line begins with `member` and a space.", "    What to change: begin with `member 1 honest`, once for each member."]
+
+
 def explain_refusal(schedule, number, cause):
     """What was wrong with a text that is not a schedule."""
     if cause == 1:
         return ["The text has more than 16,777,216 bytes.", "    What to change: make several schedules."]
-    if cause == 2:
-        return ["No line begins with `member` and a space.", "    What to change: begin with `member 1 honest`, once for each member."]
     lines = schedules.lines_of(schedule)
+    if cause == 2:
+        return no_member(schedule, lines)
     line = next(it for it in lines if it.number == number)
     members = [it for it in lines if it.word == "member" and it.number < number]
     first = next((it.number for it in lines if not it.is_setup), 0)

@@ -16,7 +16,12 @@ HELP, VERSION = ([], ["help"], ["--help"], ["-h"]), ["--version"]
 NO_SCHEDULE = ("make", "check")
 # The programs that read a schedule from standard input, after which the script may have something to say.
 READS_SCHEDULE = ("committee", "inspect")
-WRONG_WORDS, REFUSED, NOT_EMPTY = 2, 3, 8
+WRONG_WORDS, REFUSED, KEEP_FAULT, NEGATIVE = 2, 3, 6, 8
+# What is easily forgotten of a program's words.
+FORGOTTEN = {
+    "committee": "the schedule comes on standard input, as in ./committee run < FILE, and `in JOURNAL` comes last",
+    "inspect": "the schedule comes on standard input, as in ./inspect digests < FILE",
+}
 HANDED_ON = (signal.SIGINT, signal.SIGTERM, signal.SIGHUP, signal.SIGQUIT, signal.SIGUSR1, signal.SIGUSR2)
 
 
@@ -96,13 +101,24 @@ class Launch:
         at = self.program()
         if isinstance(at, str):
             at = self.ended(at)
-        if at == WRONG_WORDS and self.name in READS_SCHEDULE:
-            self.say(f"./{self.name} help says what the words mean")
-        if at == REFUSED and self.name in READS_SCHEDULE and self.words[:1] not in ([it] for it in NO_SCHEDULE):
-            self.say(f"the text is not a schedule. What to change: {self.advice()}")
-        if at == NOT_EMPTY and self.words[:1] in (["run"], ["make"]):
-            self.say("a journal file keeps one run. Name a new file after `in`, or remove this one")
+        if self.name in READS_SCHEDULE:
+            for line in self.hints(at):
+                self.say(line)
         return 1 if at is None else at
+
+    def hints(self, status):
+        """What to say after a run that ended with this status."""
+        command = self.words[0] if self.words else ""
+        if status == WRONG_WORDS:
+            yield f"{FORGOTTEN[self.name]}; ./{self.name} help says what the words mean, and docs/COMMANDS.md which numbers fit"
+        if status == REFUSED and command not in NO_SCHEDULE:
+            yield f"the text is not a schedule. What to change: {self.advice()}"
+        if status == KEEP_FAULT and command == "replay":
+            yield "a record is bad if the file is damaged, or if a run of another set-up kept it"
+        if status == NEGATIVE and command in ("run", "make"):
+            yield "a journal file keeps one run. Name a new file after `in`, or remove this one"
+        if status == NEGATIVE and command == "chain":
+            yield "there is no such chain, and the line that was written in its place says why"
 
     def ended(self, program):
         """Becomes the program; or, if something may have to be said after it, starts it and answers its status."""
@@ -164,7 +180,7 @@ def version(name):
     elif programs.proved(name):
         stands = "proved"
     else:
-        stands = "UNPROVED, kept" if kept.Build(name).stands() else "not built yet; the first run builds it, UNPROVED"
+        stands = f"UNPROVED build, kept in {crates.cache()}" if kept.Build(name).stands() else "not built yet; the first run builds it, UNPROVED"
     return f"{name} {crates.version()}\nkit: {kit or 'none'}\nprogram: {stands}"
 
 

@@ -142,8 +142,11 @@ class Suite(unittest.TestCase):
 
     def test_a_program_that_is_not_there(self):
         ran = subprocess.run([f"{self.room}/run", "/nowhere/program"], capture_output=True, text=True)
-        self.assertEqual((ran.returncode, ran.stdout.splitlines()[-1]), (1, "0 passed, 1 failed"))
-        self.assertIn("/nowhere/program is not a program", ran.stdout)
+        self.assertEqual((ran.returncode, ran.stdout, ran.stderr), (2, "", "/nowhere/program is not a program\n"))
+
+    def test_a_wrong_option_is_named(self):
+        ran = subprocess.run([f"{self.room}/run", "--bogus", "x"], capture_output=True, text=True)
+        self.assertEqual((ran.returncode, ran.stdout, ran.stderr.splitlines()[-1]), (2, "", "conformance/run: unrecognized arguments: --bogus"))
 
 
 class Parts(unittest.TestCase):

@@ -143,6 +143,8 @@ def line_of(heard, member, ended="ended before it answered: start it, and ask ag
 
 def make(folder, genesis, program):
     """Makes the journals."""
+    if os.path.exists(f"{folder}/genesis"):
+        raise Wrong(f"{folder} has a committee: `walk start` starts it; name another folder for a new one")
     os.makedirs(folder, exist_ok=True)
     with open(genesis, "rb") as given, open(f"{folder}/genesis", "wb") as it:
         it.write(given.read())
