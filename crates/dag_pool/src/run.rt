@@ -37,10 +37,11 @@ pub struct PoolRun<J: Job> {
 /// Executes each task of a plan once, by 1 to 16 workers in threads of their own, over a board that was laid over the plan
 /// and that no call was made on. Each task's inputs come from the board, and its values go there.
 ///
-/// A worker takes from its own deck, and if that is empty steals once round from the others' decks. If it got nothing
-/// it claims once more each task that was dealt to it or that its own payments made ready, and it retires when each of these
-/// is claimed. What the workers left is executed on the caller: nothing, unless a worker was refused memory.
-/// The gate is notified of each execution, before and after, which no clause says. After `OutOfMemory` the seat is gone.
+/// A worker takes from its own deck; if that is empty, it tries each of the others' decks once, up to a task that it
+/// wins. If it got nothing, it claims once more the tasks that were dealt to it or that its own payments made ready, up
+/// to a claim that it wins. It retires when each of these is claimed. What the workers left is executed on the caller:
+/// nothing, unless a worker was refused memory. The gate is notified of each execution, before and after, which no
+/// clause says. After `OutOfMemory` the seat is gone.
 pub fn run_plan<R: Threads + Sync, J: Job + Send + Sync, G: Gate + Sync>(
     rt: &R,
     alloc: Global,

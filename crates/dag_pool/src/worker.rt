@@ -74,7 +74,7 @@ fn from_own<J: Job, G: Gate>(
     Ok(false)
 }
 
-// Steals once round, and executes what is won.
+// Tries each of the others' decks once, up to a task that is won, and executes that.
 fn from_others<J: Job, G: Gate>(
     crew: &Crew<'_, J, G>,
     post: &mut WorkerState<J>,

@@ -8,7 +8,7 @@ ghost use Rattle.epoch_turn.specs.Ends.{CountsIn, counted_after, greatest, said_
 use quorum_core::Committee;
 use std::marker::Model;
 
-/// What an End statement of a member adds.
+/// What counting a member's End gives.
 #[derive(Clone, Copy)]
 pub enum Counted {
     /// The member was counted before.

@@ -11,9 +11,9 @@ ghost use Rattle.epoch_turn.specs.Chains.{AreHeld, Chaining, IsBehind, IsBuilt};
 ghost use Rattle.epoch_turn.specs.Dues.{cuts_of, size_of};
 ghost use Rattle.epoch_turn.specs.declared.due.CutMark.{CutMark as Mark};
 
-/// Whatever else a member holds, executes, admits and cuts: what it had built is a prefix of what it is to build. If
-/// it holds the certificates of all that it admitted, one more of another transaction changes nothing of what is
-/// built, and after more executions the chain can advance.
+/// If a member holds the certificates of all transactions that it admitted, the checkpoints that it can build are a
+/// prefix of those that it can build after it holds, executes, admits and cuts more; and more certificates change
+/// nothing of what is built. After more executions a chain can advance, whatever is held.
 pub fn what_is_built_stays()
     ensures held { (epoch : ℕ) (held more : List Held) (executed : List Execution) (admitted : List Admitted) (c : Chaining) → AreHeld held admitted → IsBuilt epoch held executed admitted c → IsBuilt epoch (held ++ more) executed admitted c }
     ensures executed { (epoch : ℕ) (held : List Held) (executed more : List Execution) (admitted : List Admitted) (c : Chaining) → IsBuilt epoch held executed admitted c → IsBehind epoch (executed ++ more) c }

@@ -1,4 +1,4 @@
--- For what a certificate waits: the transactions that make the versions that it wants.
+-- What a certificate waits for: the transactions that make the versions that it wants.
 use Rattle.std.specs.Prelude.{Bool, not, List, map, Option, Some, None}
 use Rattle.std.specs.List.{list_all}
 use Rattle.digest_core.specs.declared.Digest.{Digest}

@@ -23,7 +23,7 @@ use version_assign::Admission;
 use version_store::Store;
 use wire_bcs::{OutOfMemory, Seq};
 
-/// A plan has fewer tasks and edges than this; more count as running out of memory.
+/// A plan has fewer tasks and fewer edges than this; as many or more count as running out of memory.
 pub(crate) const LIMIT: usize = 2_147_483_648;
 
 /// The number of the task that makes a version, if these are the planned transactions.
@@ -234,7 +234,7 @@ impl<'a> Draft<'a> {
 }
 
 impl<'a> Draft<'a> {
-    /// The plan. A plan of 2^31 tasks or edges counts as running out of memory.
+    /// The plan. 2^31 or more tasks or edges count as running out of memory.
     pub(crate) fn into_plan(self, alloc: Global) -> Result<Plan<Task<'a>>, OutOfMemory>
         requires { IsDraft self }
         ensures jobs { IfOk result (λ plan. plan.jobs ≡ self.entry.tasks) }

@@ -14,8 +14,8 @@
 //! them and answers their effects. A task is not kept if one that makes what it wants is not, if what it wants is
 //! missing or does not fit it, or if it writes a version that is already there. [`run_planned`] does all three on the
 //! caller's thread, [`run_pooled`] on workers in threads of their own. [`plan_keeps_the_rounds`] and
-//! [`plan_leaves_the_left`] are laws over the definitions: what is kept is the rounds, and what is left is what the
-//! rounds leave. A member executes a block only by a task.
+//! [`plan_leaves_the_left`] are theorems over the definitions: what is kept is what the rounds execute, and what is
+//! left is what the rounds leave. A member executes a block only by a task.
 #![tactic(auto)]
 
 mod behind;

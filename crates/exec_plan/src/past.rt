@@ -33,7 +33,7 @@ impl<'a> PlannedView<'a> {
         PlannedView { store, planned }
     }
 
-    /// The store as it is, if none is planned.
+    /// The store as it is, with no transaction planned.
     pub(crate) fn of(store: &'a Store, none: &'a IndexSet<Digest>) -> PlannedView<'a>
         requires { none.now.keys ≡ [] }
         ensures { result ≡ store.now }

@@ -156,8 +156,8 @@ impl PlanSoFar {
     }
 }
 
-/// Plans one more layer, and answers whether it is empty. The certificates that wait for its transactions wait for what
-/// else they want, as if these had been executed.
+/// Plans one more layer, and answers whether it is empty. The certificates that waited for its transactions are filed
+/// again, by what else they want, as if these had been executed.
 fn plan_layer(
     alloc: Global,
     store: &Store,

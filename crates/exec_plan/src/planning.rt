@@ -1,4 +1,4 @@
-//! What the plan of a run keeps: a law over definitions.
+//! What the plan of a run keeps and leaves: theorems over the definitions.
 
 ghost use Rattle.exec_plan.specs.Planning.{KeepsTheRounds, LeavesTheLeft, TurnsAreRounds};
 

@@ -23,7 +23,7 @@ use version_assign::Admission;
 use version_store::Store;
 use wire_bcs::{OutOfMemory, Seq};
 
-/// This many workers, and no more than tasks, but one at least.
+/// This many workers, but no more than there are tasks, and at least one.
 fn workers_for(ready: &Ready<'_>, workers: u32) -> u32
     requires { (0 < workers) × (workers ≤ 16) }
     ensures { (0 < result) × (result ≤ 16) }

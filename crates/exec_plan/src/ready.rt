@@ -32,9 +32,9 @@ pub struct Ready<'a> {
 /// object, and of which all that makes what they want is executed or in an earlier layer (this profile). A layer is in
 /// order of holding. Each held certificate stands under its transaction's digest, and its transaction has a valid shape; no
 /// transaction is held twice. Nothing is executed or written. The places of what is planned are taken out of what waits until
-/// the outputs are settled. The only error is that memory is refused, or that there are 2^31 tasks or edges: nothing is then
-/// promised of what waits. Looks at what waits for nothing, and at what waits for a planned transaction, once for each such
-/// transaction.
+/// the outputs are settled. The only error is that memory is refused, or that there would be 2^31 or more tasks or
+/// edges: nothing is then promised of what waits. Looks at what waits for nothing, and at what waits for a planned
+/// transaction, once for each such transaction.
 pub fn plan_ready<'a>(
     alloc: Global,
     store: &Store,

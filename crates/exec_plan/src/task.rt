@@ -19,8 +19,8 @@ use std::alloc::Global;
 use std::marker::Model;
 use wire_bcs::{OutOfMemory, Seq};
 
-/// What an edge carries of a wanted version: the object, or that the transaction that was to make it did not, or
-/// that this was not executed.
+/// What an edge carries for a wanted version: the object; or that the transaction that was to make it was executed and
+/// did not make it (`Lacks`); or that this transaction was not executed (`NotRun`).
 #[derive(Clone, Copy)]
 pub enum Carry {
     Object(HashedObject),
@@ -28,12 +28,12 @@ pub enum Carry {
     NotRun,
 }
 
-/// The outcome of a task: the first that applies.
+/// The outcome of a task: the first of `Waits`, `Absent` and `Unfit` that applies, and else `Done`.
 #[derive(Drop)]
 pub enum Outcome {
     /// It was executed.
     Done(HashedExecuted),
-    /// This version is missing, the first that is.
+    /// This is the first wanted version that is missing.
     Absent { key: ObjectKey, origin: Producer },
     /// What it wants is there and does not fit it.
     Unfit,

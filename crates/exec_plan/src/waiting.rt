@@ -22,8 +22,8 @@ use version_assign::Admission;
 use version_store::Store;
 use wire_bcs::{OutOfMemory, Seq};
 
-/// The held certificates that are not executed, by what they wait for: one that names a shared object for
-/// its admission, and each that may run for a transaction that makes what it wants; once there is none, it
+/// The held certificates that are not executed, by what they wait for. One that names a shared object waits for its
+/// admission. One that may run waits for a transaction that makes what it wants; once all of these are executed, it
 /// waits for nothing, and each run looks at it until it is executed.
 #[derive(Drop)]
 pub struct DependencyIndex {
@@ -50,8 +50,8 @@ impl DependencyIndex {
         }
     }
 
-    /// Files a held certificate that is not executed: until its transaction is admitted, under the first transaction
-    /// that it waits for, or for the next run.
+    /// Files a held certificate that is not executed: among those that need an admission, under the first transaction
+    /// that it waits for, or among those that the next run looks at.
     fn file(
         &mut self,
         past: &PlannedView<'_>,

@@ -22,7 +22,7 @@ joined handed = flat_map (λ (h : Handed). h.txs) handed
 unfoldable pub followed : List Object → List Handed → Objects
 followed opening handed = (fold_all (map_of opening) (joined handed)).map
 
--- the effects of each transaction in that execution, in order; none where a transaction has no effects
+-- the effects of each transaction in that execution, in order; none if a transaction has no effects
 unfoldable pub followed_effects : List Object → List Handed → List (Option Effects)
 followed_effects opening handed = (fold_all (map_of opening) (joined handed)).effects
 

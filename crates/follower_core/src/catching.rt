@@ -115,7 +115,7 @@ fn refusal_as(number: u64, refusal: &FollowRefusal) -> CatchUpRefusal
     }
 }
 
-/// Hands a checkpoint to a follower, with the transactions that are known by its items.
+/// Hands a checkpoint to a follower, with the transactions of its items, looked up by digest.
 #[tactic(auto, using(crate::proofs::Caught::taken_is, crate::proofs::Caught::taken_counts, crate::proofs::Caught::stuck_is, crate::proofs::Caught::refused_is))]
 fn take<A: Archive>(
     alloc: Global,
@@ -170,8 +170,9 @@ fn take_at<A: Archive>(
     }
 }
 
-/// The follower of a chain that begins with these objects, after all checkpoints of the archive of the epochs before
-/// this one, taken in order; or why the first that it does not apply is refused. Time grows with what they hold.
+/// The follower of a chain that begins with these objects, after it has taken, in order, all checkpoints of the archive
+/// that are of epochs before this one; or why the first that it does not apply is refused. Time grows with what these
+/// hold and with the number of checkpoints in the archive.
 #[tactic(auto, using(crate::proofs::Caught::begins, crate::proofs::Caught::passes, crate::proofs::Caught::caught_whole, crate::proofs::Caught::caught_count, crate::proofs::Caught::caught_refused))]
 pub fn catch_up<A: Archive>(
     alloc: Global,

@@ -108,7 +108,7 @@ fn follow(
 }
 
 impl Follower {
-    /// A follower of the chain that begins with these objects; of two with one id the last counts.
+    /// A follower of the chain that begins with these objects; if two have one id, the last counts.
     #[tactic(auto, unfolding(protocol_spec::specs::Member::Sequential::map_of))]
     pub fn open(alloc: Global, opening: &Seq<Object>) -> Result<Follower, OutOfMemory>
         ensures { IfOk result (λ follower. follower ≡ opened opening.now) }
@@ -137,8 +137,8 @@ impl Follower {
     /// first bad place `WrongTx`, `Stuck` or `Differs`; last, `OutOfMemory`. A transaction is stuck if its shape is not
     /// valid, an object that it names is not live or does not fit, a transaction of its digest was applied before in this
     /// epoch, it writes one id twice, or it creates an object whose id has a version in this epoch. After `OutOfMemory`
-    /// the follower is down; any other refusal changes nothing. Time grows with what the checkpoint holds. Fewer than
-    /// 2^64 - 1 checkpoints were applied, and the lists are at most 2147483647 long.
+    /// the follower is down; any other refusal changes nothing. Time grows with what the checkpoint holds. Required:
+    /// fewer than 2^64 - 1 checkpoints were applied, and the lists are at most 2147483647 long.
     pub fn apply(
         &mut self,
         checkpoint: &Checkpoint,

@@ -1,4 +1,4 @@
-//! The law of the follower: its objects are those of the sequential execution.
+//! The theorem about followers: a follower's objects are those of the sequential execution.
 
 ghost use Rattle.std.specs.Prelude.{◌≡◌, List, map, option_map};
 ghost use Rattle.chain_types.specs.declared.objects.Object.{Object};

@@ -2,8 +2,8 @@
 //!
 //! A [`Chain`] is a list of checkpoints, each with the seals of members on it. [`check_chain`] says whether it is
 //! certified, or the first link that is not, with the first cause; [`find`] looks for a transaction in it, and
-//! [`make_chain`] seals checkpoints as members do. [`judge`] does it all with bytes, and [`check_source`] with a source of
-//! bytes, of which it writes one line.
+//! [`make_chain`] seals checkpoints as members do. [`judge`] checks and searches a chain that is given as bytes, and
+//! [`check_source`] one that it reads from a source, and writes its finding in one line.
 #![tactic(auto)]
 
 mod cause;

@@ -48,7 +48,7 @@ fn place_of_tip(tip: Option<Tip>) -> Option<(u64, Digest)>
     }
 }
 
-/// Whether the number or the parent is another.
+/// The cause if the number or the parent is not the wanted one; none if both are.
 fn cause_of_link(before: Option<(u64, Digest)>, checkpoint: &Checkpoint) -> Option<LinkCause>
     requires { HasNext before }
     ensures { result ≡ cause_of_link (link_answer before checkpoint.now) }

@@ -34,7 +34,7 @@ fn are_rivals(alloc: Global, one: &Certificate, other: &Certificate) -> Result<b
     Ok(first != second)
 }
 
-/// The first of these keys that is among the others.
+/// The first of the others that is among these keys.
 fn first_shared(keys: &[ObjectKey], others: &[ObjectKey]) -> Option<ObjectKey>
     ensures { result ≡ first_of (λ key. where_true (has_key keys.now key) key) others.now }
 {

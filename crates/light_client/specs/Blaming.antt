@@ -1,5 +1,5 @@
 -- Who sealed two certificates of which an honest member sealed one at most, from bytes. Source: Sui Lutris (see
--- `blamed`); the refusals, where nobody is to blame, are this profile's own.
+-- `blamed`); the refusals, if nobody is to blame, are this profile's own.
 use Rattle.std.specs.Prelude.{ℕ, List, Option, Some, None, Result, Ok, Err}
 use Rattle.chain_messages.specs.declared.messages.Certificate.{Certificate}
 use Rattle.chain_messages.specs.Messages.{certificate}

@@ -61,7 +61,7 @@ fn sealers(alloc: Global, said: &[Sealed]) -> Result<Vec<u32>, OutOfMemory>
     Ok(said.iter().map(|sealed| sealed.member).collect(alloc)?)
 }
 
-/// Whether two statements acknowledge two things.
+/// Whether two statements acknowledge different things.
 fn is_other(first: &Statement, statement: &Statement) -> bool
     ensures { result ≡ is_other (acknowledged_in first.now) (acknowledged_in statement.now) }
 {

@@ -3,8 +3,8 @@
 //!
 //! Each input has at most 16,777,216 bytes. A seal is judged by a [`Checker`]: [`AcceptedSeals`] is a set of seals that
 //! the caller has accepted, and a sealer of `quorum_core` is a checker too. [`list_chain`], [`list_certificate`] and
-//! [`list_acknowledgements`] list the seals that bytes have. Each answer is one equation by the definitions of `specs/`,
-//! or memory was refused.
+//! [`list_acknowledgements`] list the seals that bytes have. Each answer is what the definitions in `specs/` give,
+//! unless memory is refused.
 #![tactic(auto)]
 
 mod accepted;

@@ -20,7 +20,7 @@ pub enum Refusal {
     NotIncluded,
     /// The fault of a transaction's shape, 1 to 12, or 13 if there is not one origin for each object.
     Shape { fault: u8 },
-    /// The members do not ascend, repeat, or are not known.
+    /// The members are not in ascending order, one repeats, or one is not known.
     Order,
     /// The stake of the members is not more than two thirds of all.
     ShortStake { weight: u64, total: u64 },
@@ -28,7 +28,7 @@ pub enum Refusal {
     BadSeal { member: u32 },
     /// The statement at this place, counted from 0, is not an acknowledgement.
     NoAcknowledgement { place: u64 },
-    /// The first member `a` and the first other `b` that acknowledge something else.
+    /// Member `b` is the first that acknowledges something other than `a`, the member of the first statement.
     Differ { a: u32, b: u32 },
     /// The certificates are not of two transactions of one epoch that consume one version.
     NoRivals,

@@ -1,4 +1,4 @@
--- What each step of the table tells its caller: a relation between the step (which word, and its number), the seat
+-- What each step of the table reports to its caller: a relation between the step (which word, and its number), the seat
 -- before, the number that was found in the word, and the seat after.
 use Rattle.std.specs.Prelude.{◌≡◌, ◌≢◌, ℕ, ◌<◌, ◌≤◌, ◌∷◌, Option, Some, None, if◌then◌else◌, ◌==◌}
 use Rattle.atomic_table.specs.Table.{Me, Step, rest}

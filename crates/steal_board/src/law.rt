@@ -1,4 +1,5 @@
-//! The board rule, and what each step tells its caller, as types that the table of the toolchain is instantiated with.
+//! The board rule, and what each step reports to its caller, as types that the table of the toolchain is instantiated
+//! with.
 
 ghost use Rattle.dag_core.specs.Plans.{plan_values};
 ghost use Rattle.steal_board.specs.Views.{paper_of, seat_view, whole, with_share, joined, spent};

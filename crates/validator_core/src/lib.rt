@@ -9,7 +9,8 @@
 //!
 //! Within, a `State` has the votes given in the epoch, and an `EpochState`: its versions, the certificates held, the
 //! sequence as it was seen, and the checkpoints. A call is decided, its record is appended, and the state takes it before
-//! the call answers; a run's effects stand when its record is appended. A start takes the records in the same way.
+//! the call answers; a run executes first, and its record is appended after that. A start takes the records in the same
+//! way.
 #![tactic(auto)]
 
 mod calls;

@@ -52,7 +52,7 @@ pub(crate) struct State {
     records: u64,
     closed: bool,
     pub(crate) votes: VoteStore,
-    /// How many of the first held certificates are in the sequence; one step further after each entry.
+    /// How many certificates at the start of the held ones are in the sequence; counted on from here after each entry.
     ordered: usize,
     pub(crate) epoch_state: EpochState,
     pub(crate) alloc: Global,
@@ -435,8 +435,8 @@ impl State {
         self.records += 1;
     }
 
-    /// The first admitted transaction that is not executed as it was admitted; none exactly if all are. One look. Takes
-    /// no memory.
+    /// The first admitted transaction that is not executed as it was admitted; none exactly if all are. One look-up.
+    /// Takes no memory.
     pub(crate) fn first_undone(&self) -> Option<Digest>
         ensures { result ≡ first_of (waiting_one self.now.member.held self.now.member.executed) self.now.member.sequence.admission.admitted }
     {

@@ -251,10 +251,10 @@ impl Validator {
         answer
     }
 
-    /// Hands the next entry of the epoch's consensus sequence, which has this number from 0, to the member (Sui Lutris):
+    /// Hands the next entry of the epoch's consensus sequence to the member (Sui Lutris); its number is counted from 0:
     /// answers what it did, and the checkpoints that it completes. Order of the refusals: `Down`, `Halted`, `Full`,
-    /// `Over` if the end of the epoch was seen, `Gap` if `number` is not that of the entries seen, `KeepFault`,
-    /// `Fork`. The record is appended before the call answers, whatever the entry is. After `KeepFault` and running out of
+    /// `Over` if the end of the epoch was seen, `Gap` if `number` is not that of the entries seen, `KeepFault`, `Fork`.
+    /// The record is appended before the call answers, whatever the entry is. After `KeepFault` and running out of
     /// memory the member is down; after `Fork` it is halted.
     #[tactic(auto, using(crate::proofs::Seeing::see_settles, crate::proofs::Seeing::see_at, crate::proofs::Seeing::see_due_at, crate::proofs::Settling::owed_at, crate::proofs::Settling::down_keeps))]
     pub fn see<D: Keeper, S: Sealer>(

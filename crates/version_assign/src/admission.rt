@@ -23,8 +23,8 @@ use std::alloc::Global;
 use std::marker::Model;
 use wire_bcs::{OutOfMemory, Seq};
 
-/// The certificates of one epoch's sequence: those that were admitted, dropped, or wait. Contracts see the shared
-/// objects with which the epoch opened, the limit of writers, and these lists.
+/// The certificates of one epoch's sequence: those that were admitted, those that were dropped, and those that wait.
+/// Contracts see the shared objects with which the epoch opened, the limit of writers, and these lists.
 #[derive(Drop)]
 pub struct Admission {
     register: IndexedAdmission,
@@ -104,8 +104,8 @@ impl Admission {
     /// in the sequence. It waits until its origins are admitted and each object that it writes has fewer writers
     /// since the last mark than the limit; then it is admitted (and its shared inputs are assigned their current
     /// versions, Sui Lutris), or dropped if its version would be 2^62 or more, or if a shared input of no origin
-    /// was not shared as the epoch opened. So are, in order of arrival, those that waited for it. A refusal changes
-    /// nothing.
+    /// was not shared as the epoch opened. Waiting certificates that this frees are admitted or dropped too, in order
+    /// of arrival. A refusal changes nothing.
     pub fn push(&mut self, tx: &Digest, cert: &SharedCertificate) -> Result<Taken, OutOfMemory>
         requires shaped { shape_fault cert.now.tx ≡ None }
         requires origins { length cert.now.origins ≡ length (objects_of cert.now.tx) }

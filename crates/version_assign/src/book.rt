@@ -107,8 +107,8 @@ pub(crate) fn push_in_room(all: &mut Vec<Digest>, tx: Digest)
     }
 }
 
-/// Whether an assignment begins in the epoch's opening, which has no such shared object: then the certificate is
-/// dropped.
+/// Whether an assigned version was to come from the epoch's opening, in which no shared object has its id: then the
+/// certificate is dropped.
 fn lacks_one(opening: &IndexMap<ObjectId, Object>, one: &Assigned) -> bool
     ensures { result ≡ lacks_one opening.now.entries one.now }
 {

@@ -1,8 +1,8 @@
-//! A law about the definitions, by which a member may keep only the shared objects of its opening.
+//! A theorem over the definitions: a member need keep only the shared objects of its opening.
 ghost use Rattle.version_assign.specs.Sharing.{SharedServe};
 
-/// Admission over the shared objects of an opening, whose objects have distinct ids, is admission over all of them:
-/// of each entry, of each mark, and of a whole sequence.
+/// If an opening's objects have distinct ids, admission gives the same over its shared objects as over all of them: for
+/// each entry, for each mark, and for a whole sequence.
 pub fn shared_objects_serve()
     ensures { SharedServe }
 {}

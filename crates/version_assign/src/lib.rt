@@ -1,7 +1,7 @@
 //! The admission of the certificates of one epoch's sequence, and the versions that it assigns to shared objects.
 //!
 //! An [`Admission`] is handed the certificates of the sequence and its Commit marks, in order. It admits a certificate
-//! once the transactions that it comes from are admitted and, if there is a limit, the objects that it writes have
+//! once the transactions that its origins name are admitted and, if there is a limit, the objects that it writes have
 //! fewer writers since the last mark; those that wait are admitted in order of arrival. An admitted transaction's
 //! shared inputs get their current versions (Sui Lutris); that certificates wait for origins, and the limit, are this
 //! profile's own.

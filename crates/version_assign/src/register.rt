@@ -28,7 +28,7 @@ pub(crate) struct IndexedAdmission {
 }
 
 impl IndexedAdmission {
-    /// Admits or drops the certificate at a place, if one waits, which is free.
+    /// Admits or drops the certificate that waits at a place, if one does; it is free.
     fn take(&mut self, place: usize)
         requires kept { IsWhole self.old }
         requires free { is_free_one (shown self.old.book) (placed self.old.book.rows.items (Some place)) ≡ true }

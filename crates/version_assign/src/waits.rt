@@ -224,8 +224,8 @@ impl PendingIndex {
         }
     }
 
-    /// The first place at which a free certificate waits. Each round puts one aside, so there are no more of them than
-    /// rows.
+    /// The first place at which a free certificate waits. Each round puts one certificate aside, so there are no more
+    /// rounds than rows.
     pub(crate) fn next_free(&mut self, book: &AdmissionTables) -> Option<usize>
         requires kept { IsKept book.now }
         requires filed { IsFiledIn book.now self.old }

@@ -1,5 +1,5 @@
--- Requests that callers make in turns: caller `c` of `callers` makes the requests whose place has the remainder `c` by
--- `callers`. This profile.
+-- Requests that callers make in turns: caller `c` of `callers` makes the requests whose place leaves the remainder `c`
+-- when divided by `callers`. This profile.
 use Rattle.std.specs.Prelude.{◌≡◌, ℕ, ◌<◌, ◌≤◌, ◌%◌, List, length, slice_get}
 use Rattle.vote_desk.specs.Counts.{times}
 

@@ -173,8 +173,8 @@ fn ask_and_close<
     Err(OutOfMemory)
 }
 
-/// Puts a member behind a desk and lets 1 to 16 callers ask it for votes, each in a thread of its own. A caller asks for
-/// the requests whose places have its number as the remainder by the number of callers, in order. Answers the member, its
+/// Puts a member behind a desk and lets 1 to 16 callers ask it for votes, each in a thread of its own. Of n callers,
+/// numbered from 0, caller c asks in order for the requests at the places p with p mod n = c. Answers the member, its
 /// keeper and the history: the calls in the order in which they were made. If room for an entry is refused there is no
 /// history.
 pub fn ask_by_callers<
@@ -228,8 +228,9 @@ fn any_lacks_memory(history: &Seq<DeskEntry>) -> bool
     false
 }
 
-/// The history of 1 to 16 callers that ask a member over a keeper that never fails, as [`ask_by_callers`] has it, by the
-/// seals that the sealer accepts. Each reply is an answer of the member: none is a fault of the keeper, and if any call runs out of memory, so does this one.
+/// The history of 1 to 16 callers that ask a member whose keeper never fails, as [`ask_by_callers`] gives it, in terms
+/// of the seals that the sealer accepts. Each reply is an answer of the member: none is a fault of the keeper, and if a
+/// call runs out of memory, this function does too.
 pub fn answers_to_callers<R: Threads + Wait + Sync, S: Sealer + Drop + Send + Sync>(
     rt: &R,
     alloc: Global,

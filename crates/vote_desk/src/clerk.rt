@@ -4,8 +4,8 @@ ghost use Rattle.std.specs.Prelude.{ℕ};
 
 /// An object that answers one request at a time, and says what the history keeps of it.
 ///
-/// Whatever can go wrong in a call, as running out of memory or a fault of a device, is an answer like any other: it has an entry,
-/// and the state that it leaves is what later answers are given in.
+/// Whatever can go wrong in a call, such as running out of memory or a fault of a device, is an answer like any other:
+/// it has an entry, and later requests are answered in the state that it leaves.
 pub trait Clerk: Drop {
     /// What a caller asks. It brings along the memory that its entry takes, so that an entry is never lost.
     type Request: Drop;

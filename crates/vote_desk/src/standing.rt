@@ -3,8 +3,8 @@
 use validator_core::Validator;
 use wire_bcs::Seq;
 
-/// The member, the sealer over which its answers are meant, the keeper's count of faults and, if they are observable, the
-/// keeper's lists.
+/// The member, the sealer by which its answers are judged, the keeper's count of faults and, if they are observable,
+/// the keeper's lists.
 #[derive(Drop)]
 pub struct DeskView<S> {
     pub validator: Validator,

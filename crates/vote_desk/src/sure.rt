@@ -8,7 +8,8 @@ use std::alloc::Global;
 use std::marker::Model;
 use wire_bcs::{OutOfMemory, Seq};
 
-/// A keeper in memory over one that is to fail at no call. Contracts see its lists; its count of faults is 0 for good.
+/// A keeper in memory that wraps one that is set to fail at no call. Contracts see its lists; its count of faults is 0
+/// for good.
 #[derive(Drop)]
 pub struct SureKeeper {
     inner: MemKeeper,

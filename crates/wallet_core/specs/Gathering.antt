@@ -57,7 +57,7 @@ abbrev pub no_vote : ℕ → Digest → ℕ → List Sealed → Option GatherRef
 no_vote epoch digest place [] = None
 no_vote epoch digest place (v ∷ votes) = first_some (where_true (not (is_vote epoch digest v.statement)) (refusal.NoVote place) ∷ no_vote epoch digest (place + 1) votes ∷ [])
 
--- the refusal if the members do not ascend, repeat, or are not known
+-- the refusal if the members are not in ascending order, one repeats, or one is not known
 abbrev pub out_of_order : List ℕ → List Sealed → Option GatherRefusal
 out_of_order stakes said = where_true (not (is_roll stakes (voters said))) refusal.Order
 

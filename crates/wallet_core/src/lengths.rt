@@ -9,7 +9,7 @@ use checkpoint_core::Checkpoint;
 use effects_core::Effects;
 use wire_bcs::{Seq, Wire};
 
-/// The most items of a list that can be encoded.
+/// The greatest length of a list that can be encoded.
 const MOST: u64 = 2_147_483_647;
 
 /// A value whose lists can be counted before it is encoded.

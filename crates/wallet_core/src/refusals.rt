@@ -22,10 +22,10 @@ pub enum GatherRefusal {
     TooLong,
     /// The statement at this place, counted from 0, is not a vote for the transaction in its epoch.
     NoVote { place: u64 },
-    /// The statement at this place, counted from 0, does not acknowledge the transaction of the first one in its epoch, or there
-    /// is none.
+    /// The statement at this place, counted from 0, does not acknowledge the transaction of the first one in its epoch,
+    /// or there are no statements.
     NoAcknowledgement { place: u64 },
-    /// The members do not ascend, repeat, or are not known.
+    /// The members are not in ascending order, one repeats, or one is not known.
     Order,
     /// The stake of the members is not more than two thirds of all.
     ShortStake { weight: u64, total: u64 },

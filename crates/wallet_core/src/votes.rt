@@ -52,7 +52,7 @@ fn voters(alloc: Global, votes: &[Sealed]) -> Result<Vec<u32>, OutOfMemory>
     Ok(votes.iter().map(|vote| vote.member).collect(alloc)?)
 }
 
-/// Whether the members that sealed these do not ascend, repeat, or are not known.
+/// Whether the members that sealed these are not in ascending order, one repeats, or one is not known.
 pub(crate) fn out_of_order(
     alloc: Global,
     committee: &Committee,
