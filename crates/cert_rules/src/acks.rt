@@ -24,7 +24,7 @@ pub struct Finality {
     pub members: Seq<u32>,
 }
 
-/// The digest of the effects that are acknowledged; of a statement that acknowledges nothing a digest of zeros.
+/// The digest of the effects that an acknowledgement names; a digest of zeros for any other statement.
 fn effects_in(statement: &Statement) -> Digest
     ensures { result ≡ effects_in statement.now }
 {
@@ -36,7 +36,7 @@ fn effects_in(statement: &Statement) -> Digest
     }
 }
 
-/// The epoch, the transaction and the effects of an acknowledgement; none of another statement. Takes no memory.
+/// The epoch, the transaction and the effects of an acknowledgement; none for any other statement. Takes no memory.
 fn acked(statement: &Statement) -> Option<(u64, Digest, Digest)>
     ensures { result ≡ acked statement.now }
 {
@@ -46,8 +46,8 @@ fn acked(statement: &Statement) -> Option<(u64, Digest, Digest)>
     }
 }
 
-/// The epoch, the transaction and the effects of the first acknowledgement; none of no acknowledgements. Takes no
-/// memory.
+/// The epoch, the transaction and the effects of the first acknowledgement; none if there are no acknowledgements.
+/// Takes no memory.
 fn first_acked(acks: &[Sealed]) -> Option<(u64, Digest, Digest)>
     ensures { result ≡ first_acked acks.now }
 {
@@ -57,7 +57,7 @@ fn first_acked(acks: &[Sealed]) -> Option<(u64, Digest, Digest)>
     }
 }
 
-/// Sealed acknowledgements as [`LastWords`]: the only one of a member is its last.
+/// Sealed acknowledgements as [`LastWords`]: each member has only one, which is its last word.
 #[derive(Clone, Copy)]
 struct SealedAcks<'a> {
     acks: &'a [Sealed],
@@ -90,10 +90,10 @@ fn collect_sealed(committee: &Committee, members: &[u32], acks: &[Sealed]) -> Co
     collect_words(&SealedAcks { acks }, committee, members)
 }
 
-/// What acknowledgements of one transaction in one epoch make final; members that ascend, are distinct and are known
-/// sealed them (finality of Sui Lutris). Refusals in order: `Short` if their stake is not a quorum, `Differ` with the
-/// first member and the first other whose effects have another digest. Whether the seals are accepted is for the caller
-/// to check.
+/// What acknowledgements of one transaction in one epoch make final (finality of Sui Lutris). The members that sealed
+/// them ascend, are distinct and are known. Refusals in order: `Short` if their stake is not a quorum, `Differ` with
+/// the first member and the first other whose effects have another digest. Whether the seals are accepted is for the
+/// caller to check.
 #[tactic(auto, using(crate::proofs::Acking::first_is))]
 pub fn collect_acks(
     alloc: Global,
@@ -106,7 +106,7 @@ pub fn collect_acks(
 {
     let members = voters(alloc, acks.as_slice())?;
     match collect_sealed(committee, &members, acks.as_slice()) {
-        // Each member is the one of an acknowledgement.
+        // Each of these members has an acknowledgement.
         Collected::Lacks(_) => unreachable!(),
         Collected::Short { weight, total } => Err(CollectRefusal::Short { weight, total }),
         Collected::Differ { a, b } => Err(CollectRefusal::Differ { a, b }),
@@ -117,7 +117,7 @@ pub fn collect_acks(
                 effects,
                 members: Seq::from_vec(members),
             }),
-            // There is a first one.
+            // There is at least one acknowledgement.
             None => unreachable!(),
         },
     }

@@ -40,7 +40,7 @@ pub trait LastWords {
         ensures { result ≡ same a.now b.now };
 }
 
-/// Whether the words of two members, if there are both, differ. Takes no memory.
+/// Whether both of two members have a word, and the two words differ. Takes no memory.
 fn differ<W: LastWords>(words: &W, a: u32, b: u32) -> bool
     ensures { result ≡ differs W.same (W.reads words.now a) (W.reads words.now b) }
 {

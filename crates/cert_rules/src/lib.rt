@@ -8,9 +8,9 @@
 //! certificate, if the transaction has a valid shape and the votes name one origin for each
 //! object. A check encodes the vote once and checks one seal a member.
 //!
-//! What the words of members on something, votes or acknowledgements, give together is the answer of
-//! [`collect_words`], over any [`LastWords`]; [`collect`] stands on it too, and so does [`collect_acks`], which says what the
-//! acknowledgements of a quorum make final.
+//! [`collect_words`] answers what the votes of members, or their acknowledgements, give together, over any
+//! [`LastWords`]. [`collect`] is built on it, and so is [`collect_acks`], which says what the acknowledgements of a
+//! quorum make final.
 #![tactic(auto)]
 
 mod acks;

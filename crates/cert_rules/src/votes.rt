@@ -66,7 +66,7 @@ pub(crate) fn vote_by(votes: &[Sealed], member: u32) -> Option<&Sealed>
     None
 }
 
-/// Sealed votes as [`LastWords`]: the only one of a member is its last.
+/// Sealed votes as [`LastWords`]: each member has only one, which is its last word.
 #[derive(Clone, Copy)]
 struct SealedVotes<'a> {
     votes: &'a [Sealed],

@@ -37,12 +37,12 @@ fn whole_certificate(alloc: Global, bytes: &[u8]) -> Result<(Certificate, &[u8])
     Ok(cert)
 }
 
-/// The certificate that all the bytes encode, and the bytes of its transaction among them, so that nobody encodes it again.
-/// A fault comes exactly if there is none, and is the first.
+/// The certificate that all the bytes encode, and those of the bytes that encode its transaction, so that nobody
+/// encodes it again. A fault comes exactly if there is none, and is the first.
 pub fn decode_certificate_with(alloc: Global, bytes: &[u8]) -> Result<(Certificate, &[u8]), Unread>
-    // What is read is encoded so, and is a value of its type.
+    // The bytes are the encoding of the value, which is a value of its type.
     ensures found { IfOk result (λ x. (bytes.now ≡ codecs.certificate.spell x.0) × codecs.certificate.fits x.0) }
-    // So it may be written again.
+    // So it can be encoded again.
     ensures short { IfOk result (λ x. codecs.certificate.short x.0) }
     // Which value or fault it is.
     ensures exact { DecodesAs (λ x. x.0) bytes.now result (whole codecs.certificate bytes.now) }
@@ -82,12 +82,12 @@ fn whole_entry(alloc: Global, bytes: &[u8]) -> Result<(Entry, &[u8]), Unread>
     Ok(entry)
 }
 
-/// The entry that all the bytes encode, and the bytes of its transaction among them, none if it is not a certificate.
-/// A fault comes exactly if there is none, and is the first.
+/// The entry that all the bytes encode, and those of the bytes that encode its transaction; none if it is not a
+/// certificate. A fault comes exactly if there is none, and is the first.
 pub fn decode_entry_with(alloc: Global, bytes: &[u8]) -> Result<(Entry, &[u8]), Unread>
-    // What is read is encoded so, and is a value of its type.
+    // The bytes are the encoding of the value, which is a value of its type.
     ensures found { IfOk result (λ x. (bytes.now ≡ codecs.entry.spell x.0) × codecs.entry.fits x.0) }
-    // So it may be written again.
+    // So it can be encoded again.
     ensures short { IfOk result (λ x. codecs.entry.short x.0) }
     // Which value or fault it is.
     ensures exact { DecodesAs (λ x. x.0) bytes.now result (whole codecs.entry bytes.now) }

@@ -210,11 +210,11 @@ pub fn encode_statement(alloc: Global, value: &Statement) -> Result<Seq<u8>, Out
 
 /// The statement that all the bytes encode. A fault comes exactly if there is none, and is the first.
 pub fn decode_statement(alloc: Global, bytes: &[u8]) -> Result<Statement, Unread>
-    // What is read is encoded so, and is a value of its type.
+    // The bytes are the encoding of the value, which is a value of its type.
     ensures found { IfOk result (λ x. (bytes.now ≡ codecs.statement.spell x) × codecs.statement.fits x) }
-    // So it may be written again.
+    // So it can be encoded again.
     ensures short { IfOk result codecs.statement.short }
-    // What is encoded so is read, unless memory runs out.
+    // A value that these bytes encode is read, unless memory runs out.
     ensures only { (x : _) → codecs.statement.fits x → bytes.now ≡ codecs.statement.spell x → Decodes bytes.now result (Ok x) }
     // Which fault it is.
     ensures exact { Decodes bytes.now result (whole codecs.statement bytes.now) }
@@ -232,11 +232,11 @@ pub fn encode_sealed(alloc: Global, value: &Sealed) -> Result<Seq<u8>, OutOfMemo
 
 /// The sealed statement that all the bytes encode. A fault comes exactly if there is none, and is the first.
 pub fn decode_sealed(alloc: Global, bytes: &[u8]) -> Result<Sealed, Unread>
-    // What is read is encoded so, and is a value of its type.
+    // The bytes are the encoding of the value, which is a value of its type.
     ensures found { IfOk result (λ x. (bytes.now ≡ codecs.sealed.spell x) × codecs.sealed.fits x) }
-    // So it may be written again.
+    // So it can be encoded again.
     ensures short { IfOk result codecs.sealed.short }
-    // What is encoded so is read, unless memory runs out.
+    // A value that these bytes encode is read, unless memory runs out.
     ensures only { (x : _) → codecs.sealed.fits x → bytes.now ≡ codecs.sealed.spell x → Decodes bytes.now result (Ok x) }
     // Which fault it is.
     ensures exact { Decodes bytes.now result (whole codecs.sealed bytes.now) }
@@ -254,11 +254,11 @@ pub fn encode_certificate(alloc: Global, value: &Certificate) -> Result<Seq<u8>,
 
 /// The certificate that all the bytes encode. A fault comes exactly if there is none, and is the first.
 pub fn decode_certificate(alloc: Global, bytes: &[u8]) -> Result<Certificate, Unread>
-    // What is read is encoded so, and is a value of its type.
+    // The bytes are the encoding of the value, which is a value of its type.
     ensures found { IfOk result (λ x. (bytes.now ≡ codecs.certificate.spell x) × codecs.certificate.fits x) }
-    // So it may be written again.
+    // So it can be encoded again.
     ensures short { IfOk result codecs.certificate.short }
-    // What is encoded so is read, unless memory runs out.
+    // A value that these bytes encode is read, unless memory runs out.
     ensures only { (x : _) → codecs.certificate.fits x → bytes.now ≡ codecs.certificate.spell x → Decodes bytes.now result (Ok x) }
     // Which fault it is.
     ensures exact { Decodes bytes.now result (whole codecs.certificate bytes.now) }
@@ -276,11 +276,11 @@ pub fn encode_entry(alloc: Global, value: &Entry) -> Result<Seq<u8>, OutOfMemory
 
 /// The entry that all the bytes encode. A fault comes exactly if there is none, and is the first.
 pub fn decode_entry(alloc: Global, bytes: &[u8]) -> Result<Entry, Unread>
-    // What is read is encoded so, and is a value of its type.
+    // The bytes are the encoding of the value, which is a value of its type.
     ensures found { IfOk result (λ x. (bytes.now ≡ codecs.entry.spell x) × codecs.entry.fits x) }
-    // So it may be written again.
+    // So it can be encoded again.
     ensures short { IfOk result codecs.entry.short }
-    // What is encoded so is read, unless memory runs out.
+    // A value that these bytes encode is read, unless memory runs out.
     ensures only { (x : _) → codecs.entry.fits x → bytes.now ≡ codecs.entry.spell x → Decodes bytes.now result (Ok x) }
     // Which fault it is.
     ensures exact { Decodes bytes.now result (whole codecs.entry bytes.now) }

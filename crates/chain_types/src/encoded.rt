@@ -33,12 +33,12 @@ fn whole_signed(alloc: Global, bytes: &[u8]) -> Result<(SignedTx, &[u8]), Unread
     Ok(signed)
 }
 
-/// The signed transaction that all the bytes encode, and the bytes of its transaction among them, so that nobody encodes it
-/// again. A fault comes exactly if there is none, and is the first.
+/// The signed transaction that all the bytes encode, and those of the bytes that encode its transaction, so that nobody
+/// encodes it again. A fault comes exactly if there is none, and is the first.
 pub fn decode_signed_with(alloc: Global, bytes: &[u8]) -> Result<(SignedTx, &[u8]), Unread>
-    // What is read is encoded so, and is a value of its type.
+    // The bytes are the encoding of the value, which is a value of its type.
     ensures found { IfOk result (λ x. (bytes.now ≡ codecs.signed.spell x.0) × codecs.signed.fits x.0) }
-    // So it may be written again.
+    // So it can be encoded again.
     ensures short { IfOk result (λ x. codecs.signed.short x.0) }
     // Which value or fault it is.
     ensures exact { DecodesAs (λ x. x.0) bytes.now result (whole codecs.signed bytes.now) }

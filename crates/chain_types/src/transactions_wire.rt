@@ -285,11 +285,11 @@ pub fn encode_signed(alloc: Global, signed: &SignedTx) -> Result<Seq<u8>, OutOfM
 /// The signed transaction that all the bytes encode. A fault comes exactly if there is none, and is the
 /// first.
 pub fn decode_signed(alloc: Global, bytes: &[u8]) -> Result<SignedTx, Unread>
-    // What is read is encoded so, and is a value of its type.
+    // The bytes are the encoding of the value, which is a value of its type.
     ensures found { IfOk result (λ x. (bytes.now ≡ codecs.signed.spell x) × codecs.signed.fits x) }
-    // So it may be written again.
+    // So it can be encoded again.
     ensures short { IfOk result codecs.signed.short }
-    // What is encoded so is read, unless memory runs out.
+    // A value that these bytes encode is read, unless memory runs out.
     ensures only { (x : _) → codecs.signed.fits x → bytes.now ≡ codecs.signed.spell x → Decodes bytes.now result (Ok x) }
     // Which fault it is.
     ensures exact { Decodes bytes.now result (whole codecs.signed bytes.now) }

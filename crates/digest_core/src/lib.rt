@@ -36,7 +36,8 @@ pub const TAG_SEAL: u8 = 0x53;
 #[derive(Clone, Copy, Debug, PartialEq, Eq, PartialOrd, Ord)]
 pub struct Digest(pub [u8; 32]);
 
-/// All bytes are one write, since maps by digests are looked up all the time: what is derived makes a write of each byte.
+/// All bytes are hashed in one write, since maps by digests are looked up all the time: the derived `Hash` would write
+/// each byte by itself.
 impl Hash for Digest {
     ghost hash_input = { λ d. d.0 ∷ [] };
 

@@ -33,7 +33,7 @@ pub record IsTorn (at count : ℕ) (old new : List ℕ) : Type 0 where
   pub no_longer : length new ≤ max (length old) (at + count)
   pub kept : (k : ℕ) → k < length old → (k < at) ⊎ (at + count ≤ k) → slice_index new k ≡ slice_index old k
 
--- the bytes with these at a place
+-- the old bytes with these at an offset, over what stood there and past the end
 abbrev pub with_bytes : List ℕ → ℕ → List ℕ → List ℕ
 with_bytes old at bytes = take at old ++ bytes ++ drop (at + length bytes) old
 
@@ -95,8 +95,8 @@ abbrev pub Tried : History → Option History → ℕ → ℕ → Type 0
 Tried old new at count =
     (m : Moment) × (new ≡ Some (later old m)) × IsTouched old.now m at count × IsTorn at count old.now.reads m.reads
 
--- what a write does: at Ok the bytes are written, after a fault they were tried, and if memory was refused
--- nothing changed. A disk that shows no moments never does
+-- what a write does: at Ok the bytes are written, after a fault they were tried, and if memory was refused nothing
+-- changed. A disk that shows no moments shows none after it
 abbrev pub Written : Option History → Option History → ℕ → List ℕ → Result (Unit {0}) OutFault → Type 0
 Written None new at bytes result = new ≡ None
 Written (Some old) new at bytes result = MatchResult result (λ _. Wrote old new at bytes) (after_fault old new at bytes)
@@ -110,8 +110,8 @@ abbrev pub Settles : History → Option History → Type 0
 Settles old new =
     ((m : Moment) × (new ≡ Some (later old m)) × IsSettled m old.now.reads) ⊎ ((new ≡ Some old) × IsSettled old.now old.now.reads)
 
--- a sync at Ok makes all that reads give stable; after a fault nothing changed. A disk that shows no moments never
--- does
+-- a sync at Ok makes all that reads give stable; after a fault nothing changed. A disk that shows no moments shows none
+-- after it
 abbrev pub Synced : Option History → Option History → Result (Unit {0}) Fault → Type 0
 Synced None new result = new ≡ None
 Synced (Some old) new result = MatchResult result (λ _. Settles old new) (λ _. new ≡ Some old)
@@ -126,7 +126,8 @@ abbrev pub HasExtent : Option History → ℕ → Type 0
 HasExtent None extent = Unit {0}
 HasExtent (Some h) extent = length h.now.reads ≡ extent
 
--- a write up to this end makes the file as long, if it was not; a failed one as long at most
+-- a write that ends at `end` makes a shorter file that long; a failed one may make it longer, but never past `end`; if
+-- memory was refused the size stays
 abbrev pub GrowsTo : ℕ → ℕ → ℕ → Result (Unit {0}) OutFault → Type 0
 GrowsTo old new end result = MatchResult result (λ _. new ≡ max old end) (after_fault old new end)
   where

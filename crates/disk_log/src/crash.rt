@@ -163,13 +163,13 @@ impl MemDisk {
     /// What a crash at the present moment may leave: a disk that begins with these bytes, all of
     /// them stable, and on which no call fails.
     ///
-    /// The number picks. The places from the first that was written or tried since the last sync on
-    /// are parted into first and later ones. `choice % 3` says what stands in the first ones, and
-    /// `choice / 3 % 3` what stands in the later ones: 0 what was stable, 1 what reads give, 2
-    /// another byte. `choice / 9` says how many the first ones are beyond one, counted round as far
-    /// as the greatest size goes, and each round the other byte is one less, from 255 on. The file
-    /// has the greatest size if the later ones are not as they were, else it ends after the
-    /// first ones, or, if these are as they were too, at the stable size; never before that.
+    /// The number picks. The offsets from the first that was written or tried since the last sync are parted in two.
+    /// `choice % 3` says what stands in the first part, if it was written or tried, and `choice / 3 % 3` likewise for
+    /// the second: 0 what was stable, 1 what reads give, 2 another byte. The first part has one offset and `choice / 9`
+    /// more, counted modulo the number of offsets up to the greatest size; the other byte is 255, and one less for each
+    /// time that this count wraps around. The file has the greatest size if the second part is not what was stable.
+    /// Else it ends after the first part or, if that is what was stable too, at the stable size; it never ends before
+    /// that.
     pub fn crash(self, choice: u64) -> Result<MemDisk, OutOfMemory>
         ensures image { IfOk result (λ d. IsImage (history_of self.first self.changes).now d.first) }
         ensures anew { IfOk result (λ d. d ≡ record { first = d.first; changes = []; turns = record { calls = 0; failing = [] }; faults = 0 }) }

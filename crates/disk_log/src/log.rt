@@ -130,8 +130,8 @@ impl<K: Disk> DiskLog<K> {
     }
 }
 
-/// Puts a record after the gate at `end`, into the file and into the index. The index has its room
-/// before the gate is opened.
+/// Puts a record after the gate at `end`, into the file and into the index. Room in the index is made before the gate
+/// is opened.
 fn append_to<K: Disk>(
     alloc: Global,
     disk: &mut K,
@@ -253,7 +253,7 @@ impl<K: Disk> DiskLog<K> {
         self.disk.faults()
     }
 
-    /// Whether no record was acknowledged. Takes no memory.
+    /// Whether the log has no records. Takes no memory.
     pub fn is_empty(&self) -> bool
         ensures { IfTold (K.history self.now.disk) (IsEmptyTo self.now.end result) }
     {

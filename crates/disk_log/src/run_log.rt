@@ -53,7 +53,7 @@ impl<K: Disk> RunLog<K> {
         }
     }
 
-    /// Whether no record was acknowledged. Takes no memory.
+    /// Whether the log has no records. Takes no memory.
     pub fn is_empty(&self) -> bool
         ensures { IfTold (K.history self.now.disk) (IsEmptyTo self.now.end result) }
     {

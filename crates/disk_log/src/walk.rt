@@ -73,8 +73,8 @@ fn read_next<K: Disk>(disk: &mut K, at: u64) -> Result<Option<Head>, Failed>
     }
 }
 
-/// Reads the record whose gate stands at `at` into the index. Answers where the next gate stands,
-/// or none if the record does not count.
+/// Adds to the index the range of the record whose gate stands at `at`. Answers where the next gate stands, or none if
+/// the record does not count.
 fn step<K: Disk>(disk: &mut K, index: &mut Index, at: u64) -> Result<Option<u64>, OpenRefusal>
     requires within { at ≤ K.extent disk.old }
     requires inside { IsInside at index.old }
@@ -107,8 +107,7 @@ fn step<K: Disk>(disk: &mut K, index: &mut Index, at: u64) -> Result<Option<u64>
     }
 }
 
-/// Reads the records that count into an index that is empty. Answers where the gate after them
-/// stands.
+/// Adds the ranges of the records that count to an index that is empty. Answers where the gate after them stands.
 pub(crate) fn walk<K: Disk>(disk: &mut K, index: &mut Index) -> Result<u64, OpenRefusal>
     requires { index.old ≡ replicate (length index.old) [] }
     ensures within { IfOk result (λ end. (end ≤ K.extent disk.old) × IsInside end index.new) }

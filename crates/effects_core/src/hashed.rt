@@ -31,7 +31,8 @@ impl Model for HashedEffects {
 }
 
 impl HashedEffects {
-    /// Takes the digest of effects. A list of 2^31 objects, more than a transaction can write, counts as running out of memory.
+    /// Takes the digest of effects. A list of 2^31 objects, which is more than a transaction can write, counts as
+    /// running out of memory.
     pub fn new(alloc: Global, effects: Effects) -> Result<HashedEffects, OutOfMemory>
         ensures { IfOk result (λ s. s ≡ effects) }
     {

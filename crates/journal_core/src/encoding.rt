@@ -11,10 +11,11 @@ use crate::records::Record;
 use std::alloc::Global;
 use wire_bcs::{OutOfMemory, Seq, Wire, Writer};
 
-/// Room, in bytes, for what a record has beside its payload: its number, and a length.
+/// Room, in bytes, for what a record has besides its payload: its number, and a length.
 const FRAME: usize = 64;
 
-/// Writes a record whose transaction or certificate these bytes encode.
+/// Writes a record. These bytes encode the transaction of a Vote, or the certificate of a Hold; other records do not
+/// use them.
 #[tactic(auto, using(wire_bcs::specs::Wrote::parts), unfolding(crate::specs::Records::journal_record))]
 fn write_record(writer: &mut Writer, kept: &Record, encoded: &[u8]) -> Result<(), OutOfMemory>
     requires short { codecs.journal_record.short kept.now }
@@ -38,8 +39,8 @@ fn write_record(writer: &mut Writer, kept: &Record, encoded: &[u8]) -> Result<()
     }
 }
 
-/// The one encoding of a record, of a vote or a certificate whose transaction or certificate these bytes encode. Its lists are
-/// at most 2147483647 long.
+/// The one encoding of a record. The bytes encode the transaction of a Vote, or the certificate of a Hold, and are
+/// copied into it; other records do not use them. The record's lists are at most 2147483647 long.
 pub fn encode_record_with(
     alloc: Global,
     kept: &Record,

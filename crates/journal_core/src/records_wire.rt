@@ -110,11 +110,11 @@ pub fn encode_record(alloc: Global, value: &Record) -> Result<Seq<u8>, OutOfMemo
 
 /// The record that all the bytes encode. A fault comes exactly if there is none, and is the first.
 pub fn decode_record(alloc: Global, bytes: &[u8]) -> Result<Record, Unread>
-    // What is read is encoded so, and is a value of its type.
+    // The bytes are the encoding of the value, which is a value of its type.
     ensures found { IfOk result (λ x. (bytes.now ≡ codecs.journal_record.spell x) × codecs.journal_record.fits x) }
-    // So it may be written again.
+    // So it can be encoded again.
     ensures short { IfOk result codecs.journal_record.short }
-    // What is encoded so is read, unless memory runs out.
+    // A value that these bytes encode is read, unless memory runs out.
     ensures only { (x : _) → codecs.journal_record.fits x → bytes.now ≡ codecs.journal_record.spell x → Decodes bytes.now result (Ok x) }
     // Which fault it is.
     ensures exact { Decodes bytes.now result (whole codecs.journal_record bytes.now) }

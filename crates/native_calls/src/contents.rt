@@ -101,7 +101,7 @@ pub(crate) fn names_vault(id: &ObjectId, content: &Content) -> bool
     }
 }
 
-/// Whether an object with this content may be shared: counters and vaults may.
+/// Whether an object with this content may be shared: only counters and vaults may.
 pub(crate) fn may_be_shared(content: &Content) -> bool
     ensures { result ≡ may_be_shared content.now }
 {

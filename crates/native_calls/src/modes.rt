@@ -22,7 +22,8 @@ fn at(modes: &[Mode], place: u16) -> Option<Mode>
     modes.get(place as usize).copied()
 }
 
-/// How a native, of number `LAST_NATIVE` at most, takes the parameter at this place, counted from 0; none if it has no such parameter.
+/// How a native, of number `LAST_NATIVE` at most, takes the parameter at this place, counted from 0; none if it has no
+/// such parameter.
 #[tactic(auto, unfolding(protocol_spec::specs::Block::Natives::mode_of))]
 pub fn mode(native: u8, place: u16) -> Option<Mode>
     requires { native ≤ LAST_NATIVE }

@@ -13,11 +13,11 @@ use std::os::fd::AsRawFd;
 use std::os::unix::fs::{FileExt, MetadataExt};
 use std::path::Path;
 
-/// In bytes: each file is smaller.
+/// Every file has fewer bytes than this.
 const LIMIT: u64 = 1 << 63;
 
-/// A file of the operating system as a disk. It does not show its bytes. Contracts see what the system said of it when it was
-/// opened, its size, and its count of faults.
+/// A file of the operating system as a disk. It does not show its bytes. Contracts see the metadata that the system
+/// gave when it was opened, its size, and its count of faults.
 #[derive(Drop)]
 pub struct FileDisk {
     file: File,
@@ -37,7 +37,7 @@ impl Model for FileDisk {
     ghost invariant = { λ s. s.extent < 2 ^ 63 };
 }
 
-/// Whether a file that is missing is made.
+/// Whether a missing file is created.
 #[derive(Clone, Copy, Debug, PartialEq, Eq)]
 pub enum Missing {
     IsMade,
@@ -58,7 +58,7 @@ fn open_file(rt: &HostRuntime, path: &str, missing: Missing) -> io::Result<File>
     Ok(file)
 }
 
-/// Whether a symbolic link stands at a path. One that leads nowhere would else make the file that it names.
+/// Whether a symbolic link stands at a path. If it led to nothing, opening it would create the file that it names.
 fn is_link(rt: &HostRuntime, path: &str) -> io::Result<bool> {
     match fs::symlink_metadata(rt, path) {
         Ok(named) => Ok(named.file_type().is_symlink()),
@@ -118,7 +118,7 @@ fn settle(rt: &HostRuntime, file: &File, path: &str) -> io::Result<()> {
     File::open(rt, folder_of(path))?.sync_all()
 }
 
-/// Whether the bytes of a file of this size may be a log's: the first, if there is one, is a gate, which is closed or open.
+/// Whether the bytes of a file of this size may be a log's: the first, if there is one, is a closed or an open gate.
 fn may_be_log(file: &File, extent: u64) -> io::Result<bool> {
     if extent == 0 {
         return Ok(true);
@@ -129,9 +129,10 @@ fn may_be_log(file: &File, extent: u64) -> io::Result<bool> {
 }
 
 impl FileDisk {
-    /// Opens the file of a path, which is not a symbolic link, for a log: it is empty or begins with 0 or 1. No other `FileDisk` has it open then, and the path names it. It
-    /// has met no fault yet. By what the system says it is a plain file of its size. What it holds, and that it is the one at
-    /// the path, is in no clause: no contract speaks of the system's files.
+    /// Opens the file at a path for a log. The path is not a symbolic link, and the first byte of the file, if it has
+    /// one, is 0 or 1. No other `FileDisk` has the file open then, and the path still names it. It has met no fault
+    /// yet, and the system says that it is a plain file of this size. No clause says what it holds, or that it is the
+    /// one at the path: no contract speaks of the system's files.
     pub fn open(rt: &HostRuntime, path: &str, missing: Missing) -> Result<FileDisk, OpenFault>
         ensures faults { IfOk result (λ disk. disk.faults ≡ 0) }
         ensures plain { IfOk result (λ disk. IsFile (file_type disk.opened)) }

@@ -5,7 +5,7 @@ ghost use Rattle.std.specs.Prelude.{◌≡◌, ℕ};
 use outside::{Failed, Source};
 use std::io::Read;
 
-/// A source over a reader, as standard input.
+/// A source over a reader, such as standard input.
 #[derive(Drop)]
 pub struct InSource<R: Read + Drop> {
     reader: R,

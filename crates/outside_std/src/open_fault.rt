@@ -18,7 +18,7 @@ pub enum OpenFault {
     TooLarge,
     /// Its first byte is neither 0 nor 1, as that of a log is. To a log its bytes would mean nothing, and be overwritten.
     NotLog,
-    /// What the system says; that the file is missing is one of these.
+    /// An error of the system, for example that the file is missing.
     System(io::Error),
 }
 

@@ -8,7 +8,7 @@ ghost use Rattle.outside.specs.Causes.{Rose};
 use outside::{OutFault, Sink};
 use std::io::{BufWriter, Write};
 
-/// A sink over a writer, as standard output. A writer that takes nothing counts as a fault.
+/// A sink over a writer, such as standard output. A writer that takes nothing counts as a fault.
 #[derive(Drop)]
 pub struct OutSink<W: Write + Drop> {
     writer: W,
@@ -26,7 +26,7 @@ impl<W: Write + Drop> OutSink<W> {
 }
 
 impl<W: Write + Drop> OutSink<BufWriter<W>> {
-    /// Hands on what the writer holds back. True only if nothing is held back any more, and then all of it has arrived; else
+    /// Hands on what the writer holds back. True only if nothing is held back any more, and all of it has arrived; else
     /// the count of faults has risen.
     #[tactic(auto, using(crate::proofs::Handing::handed_on))]
     pub fn finish(&mut self) -> bool

@@ -1,4 +1,4 @@
--- What an equality test says, and that it may be turned.
+-- What an equality test says, and that its two sides may be swapped.
 use Rattle.std.proofs.Common.{◌≡◌, ap, ℕ, true, List, ◌∙◌, sym, Option, Some, None, refl, subst, Bool, false, ◌||◌, [], ◌∷◌, ◌++◌}
 use Rattle.std.proofs.lemmas.Bool.Decides.{Decides-eqb, same_from_decides}
 use Rattle.std.proofs.lemmas.Bool.{eqb-true}

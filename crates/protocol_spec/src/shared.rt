@@ -24,7 +24,7 @@ impl Model for SharedCertificate {
 }
 
 impl SharedCertificate {
-    /// With one owner.
+    /// A certificate with one owner.
     pub fn new(alloc: Global, cert: Certificate) -> Result<SharedCertificate, OutOfMemory>
         ensures { IfOk result (λ s. s ≡ cert) }
     {
@@ -32,7 +32,7 @@ impl SharedCertificate {
         Ok(SharedCertificate { cert })
     }
 
-    /// One more owner of it. The only error is that 2^63 have it, and takes no memory.
+    /// Gives it one more owner. Takes no memory: the only error is that it has 2^63 owners already.
     pub fn share(&self) -> Result<SharedCertificate, OutOfMemory>
         ensures { IfOk result (λ s. s ≡ self.now) }
     {

@@ -34,7 +34,7 @@ turned a b = go (a == b) refl
     go true e = e ∙ sym (eq-eqb b a (sym (eqb-true a b e)))
     go false e = e ∙ sym (ne_eqb b a (λ (s : b ≡ a). let clash = sym e ∙ eq-eqb a b (sym s) in absurd (cc)))
 
--- the test of the code is that of the definitions, turned
+-- the test of the code is that of the definitions, with its two sides swapped
 same_test : (p s : Spot) → spot_eq p s ≡ block.place_eq (spot_of s) (spot_of p)
 same_test spots.Gas spots.Gas = refl
 same_test spots.Gas (spots.Input b) = refl

@@ -51,7 +51,7 @@ fn is_read_only(tx: &Transaction, number: u16) -> bool
     }
 }
 
-/// Whether the value of a place may not leave it in this command.
+/// Whether this command cannot take the value of the place by value.
 fn stays_in_place(tx: &Transaction, command: &Command, spot: Spot) -> bool
     ensures { result ≡ stays_in_place tx.now command.now (spot_of spot) }
 {

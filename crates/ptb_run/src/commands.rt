@@ -167,7 +167,7 @@ fn split_coin(
     Ok(())
 }
 
-/// Gives one new coin for each amount, out of a coin, if it shows their sum.
+/// Splits one new coin for each amount off a coin, if it shows at least their sum.
 pub(crate) fn split(
     alloc: Global,
     block: &mut Block,
@@ -192,7 +192,7 @@ pub(crate) fn split(
     Ok(())
 }
 
-/// The budget, which is withheld from the gas coin.
+/// What is withheld from the coin that the argument names: the budget from the gas coin, and nothing from another.
 fn withheld(tx: &Transaction, argument: &Argument) -> u64
     ensures { result ≡ withheld tx.now argument.now }
 {
@@ -219,7 +219,7 @@ fn merged(
     }
 }
 
-/// Merges sources into a coin, whose balance is `total` then.
+/// Merges sources into a coin, whose balance becomes `total`.
 fn merge_coins(
     alloc: Global,
     block: &mut Block,

@@ -11,11 +11,11 @@ use wire_bcs::OutOfMemory;
 pub(crate) enum Cause {
     /// 1: an earlier command used the value up.
     Spent,
-    /// 2: there is no such result, or the command that is named has another number of results than one.
+    /// 2: there is no such result, or the command that is named did not give exactly one result.
     NoResult,
-    /// 3: bytes have another length than a number's or an address's.
+    /// 3: the length of bytes is not that of the number or the address that is needed.
     BadPure,
-    /// 4: a value is of another kind than is needed.
+    /// 4: a value is not of the kind that is needed.
     WrongKind,
     /// 5: something that can only be lent is taken by value.
     OnlyLent,
@@ -27,9 +27,9 @@ pub(crate) enum Cause {
     TooLittle,
     /// 9: the sum of a merge is not an amount.
     Overflow,
-    /// 10: a merge of another currency.
+    /// 10: a merge of coins of different currencies.
     OtherCurrency,
-    /// 11: a native has another number of parameters.
+    /// 11: a call has more or fewer arguments than its native has parameters.
     WrongCount,
     /// 12: a result is left at the end.
     Unused,
@@ -85,7 +85,7 @@ impl From<OutOfMemory> for Halt {
 /// Why a block does not end well.
 #[derive(Clone, Copy)]
 pub(crate) enum Failed {
-    /// The command of this number fails; at the end of the block the number is how many commands there are.
+    /// The command of this number fails. A fault at the end of the block has the count of the commands as its number.
     At { command: u16, fault: Fault },
     OutOfMemory,
 }

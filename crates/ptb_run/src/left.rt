@@ -15,7 +15,7 @@ use std::alloc::Global;
 use tables::insert_new;
 use wire_bcs::OutOfMemory;
 
-/// Notes an object that left the block, if none of its id did before.
+/// Notes an object that left the block, unless one with its id is noted already.
 fn note_first(left: &mut IndexMap<ObjectId, Placed>, placed: &Placed) -> Result<(), OutOfMemory>
     ensures { OnOk result (left.new.entries ≡ with_first left.old.entries placed.now) }
 {

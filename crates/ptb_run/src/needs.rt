@@ -47,7 +47,7 @@ fn need_of(mode: Mode) -> Need
     }
 }
 
-/// Whether pure bytes have another length than a number or an address has.
+/// Whether pure bytes are not as long as the number or the address that is needed.
 #[tactic(auto, using(crate::proofs::ByNeed::no_pure_object, crate::proofs::ByNeed::no_pure_vector))]
 pub(crate) fn is_bad_pure(need: Need, value: &Value) -> bool
     ensures { result ≡ is_bad_pure (need_meant need) (value_of value.now) }

@@ -20,7 +20,7 @@ use chain_types::{Command, Transaction};
 use native_calls::parameter_count;
 use std::alloc::Global;
 
-/// Whether a native has another number of parameters.
+/// Whether a call has more or fewer arguments than its native has parameters.
 fn wrong_count(command: &Command) -> bool
     requires { is_no_native command.now ≡ false }
     ensures { result ≡ wrong_count command.now }

@@ -52,7 +52,7 @@ adds_from member (stake ∷ stakes) (suc place) m ms e new =
     let other = ap (λ b. cond (b || is_among ms member) stake 0 + weight_from (suc member) stakes (is_among (m ∷ ms))) (apart_over member m (omega arith)) in
     other ∙ omega arith
 
--- a list that ascends from above a member does not have it
+-- a list that ascends from above a member does not contain it
 above : (m n : ℕ) (ms : List ℕ) → m < n → ascends (n ∷ ms) ≡ true → is_among (n ∷ ms) m ≡ false
 above m n [] less up = ap (λ b. b || false) (apart_over m n less)
 above m n (k ∷ ks) less up =

@@ -11,7 +11,7 @@ ghost use Rattle.quorum_core.specs.Seals.{keyed_seal};
 use crate::signer::Signer;
 use digest_core::{Digest, Hasher, TAG_SEAL};
 
-/// Checks seals of signers over bytes, but makes none: a client has no more. No call takes memory.
+/// Checks seals of signers over bytes, but makes none: this is all that a client has. No call takes memory.
 pub trait Checker {
     /// Whether the seal is accepted as the signer's over the bytes.
     ghost accepts: { Self → Who → List ℕ → Seal → Bool };

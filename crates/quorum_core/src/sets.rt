@@ -12,7 +12,7 @@ pub fn is_among(members: &[u32], member: u32) -> bool
     members.iter().any(|m| *m == member)
 }
 
-/// The stake of a member, if it is among these.
+/// The stake of a member if it is among these, else 0.
 fn stake_in(members: &[u32], member: u32, stake: u32) -> u64
     ensures value { result ≡ (if is_among members.now member then stake else 0) }
     ensures below { result ≤ 4294967295 }
@@ -23,7 +23,7 @@ fn stake_in(members: &[u32], member: u32, stake: u32) -> u64
     0
 }
 
-/// The stake of those members that are among these.
+/// The sum of the stakes of those members that are in the list.
 #[tactic(auto, unfolding(crate::specs::Committee::weight_of))]
 fn sum_among(stakes: &[u32], members: &[u32]) -> u64
     requires { length stakes.now ≤ 64 }

@@ -27,7 +27,7 @@ Reads (Ok a) said = said ≡ Ok a
 Reads (Err (fault.Bad c)) said = said ≡ Err c
 Reads (Err fault.OutOfMemory) said = Unit {0}
 
--- the same for a call that writes its value into `after` in place of answering it
+-- likewise for a call that writes its value into `after` in place of answering it
 abbrev pub ReadsInto : {A : Type 0} → Result (Unit {0}) LineFault → A → Result A Cause → Type 0
 ReadsInto (Ok u) after said = said ≡ Ok after
 ReadsInto (Err (fault.Bad c)) after said = said ≡ Err c

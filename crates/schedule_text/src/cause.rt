@@ -27,7 +27,7 @@ pub enum Cause {
     UnknownName,
     /// 11: a member that no earlier line made.
     UnknownMember,
-    /// 12: a faulty member in place of an honest one, or the contrary.
+    /// 12: a faulty member although an honest one is needed, or the reverse.
     WrongRole,
     /// 13: members that do not ascend, a currency twice, or a second limit of writers.
     BadOrder,

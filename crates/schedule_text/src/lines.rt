@@ -40,7 +40,7 @@ fn role_word(word: &[u8]) -> Option<bool>
     }
 }
 
-/// The set-up line of a stake's word and a role; bad form if there is no role.
+/// The set-up line of a stake's word and a role; the form is bad if there is no role.
 fn member_setup(stake: &[u8], role: Option<bool>) -> Result<Statement, LineFault>
     ensures { Reads result (member_setup stake.now role) }
 {

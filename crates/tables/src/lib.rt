@@ -3,8 +3,8 @@
 //! Names keep what came first: a name that is given again, or a thing that is named again, changes nothing. A
 //! [`Table`] keeps rows in the order in which they came, and finds the first row of a digest, and its place; a
 //! [`NamedTable`] finds the first row of a name too. Rows may share a digest or a name. Contracts see lists. A look-up
-//! costs the hash of its key, and never a scan. Room that was made once is room for rows to come, so a caller can
-//! write several tables with one refusal before the first of them.
+//! costs the hash of its key, and never a scan. Room that was made in a [`Table`] stays until rows fill it. So a caller
+//! can make room in several of them first: after that no row is refused.
 #![tactic(auto)]
 
 mod entries;

@@ -88,7 +88,7 @@ fn is_named(id: &ObjectId, inputs: &[Input]) -> bool
     false
 }
 
-/// Whether one of the inputs names the id of this one. Takes no memory.
+/// Whether one of the inputs names the id that this input names. Takes no memory.
 fn is_again(input: &Input, inputs: &[Input]) -> bool
     ensures { result ≡ again_if (named_id input.now) inputs.now }
 {

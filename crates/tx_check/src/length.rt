@@ -75,8 +75,9 @@ fn has_bulk(tx: &Transaction) -> bool
         || any_bulky_command(tx.commands.as_slice())
 }
 
-/// Whether the encoding of a transaction is longer than 131,072 bytes, by encoding it. It is without that if one of
-/// its lists is longer: so whatever is encoded here can be.
+/// Whether the encoding of a transaction is longer than 131,072 bytes, found by encoding it. If one of its lists is
+/// longer than that by itself, so is the encoding, and nothing is encoded: so the lists of what is encoded are short
+/// enough for it.
 fn is_encoded_long(alloc: Global, tx: &Transaction) -> Result<bool, OutOfMemory>
     ensures { IfOk result (λ long. long ≡ nat_lt 131072 (length (transaction.spell tx.now))) }
 {
@@ -87,7 +88,8 @@ fn is_encoded_long(alloc: Global, tx: &Transaction) -> Result<bool, OutOfMemory>
     Ok(bytes.len() > 131072)
 }
 
-/// Whether the encoding of a transaction is longer than 131,072 bytes. Most are too small for that, and are not encoded.
+/// Whether the encoding of a transaction is longer than 131,072 bytes. Most transactions are too small for that, and
+/// are not encoded.
 #[tactic(auto, using(crate::proofs::Brief::brief_short))]
 pub(crate) fn is_spelled_long(alloc: Global, tx: &Transaction) -> Result<bool, OutOfMemory>
     ensures { IfOk result (λ long. long ≡ nat_lt 131072 (length (transaction.spell tx.now))) }

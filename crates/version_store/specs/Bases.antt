@@ -34,7 +34,8 @@ abbrev pub at_version : ℕ → Option Object → Option Object
 at_version version None = None
 at_version version (Some o) = if o.version == version then Some o else None
 
--- the map, and after it the objects of the list, each under its id, up to the first whose id the map has by then
+-- the map, and after it the objects of the list, each under its id, that come before the first whose id the map has by
+-- then
 abbrev pub front_entries : List (ObjectId × Object) → List Object → List (ObjectId × Object)
 front_entries done [] = done
 front_entries done (o ∷ os) = if is_some (lookup (id_eq o.id) done) then done else front_entries (done ++ (o.id, o) ∷ []) os

@@ -15,7 +15,7 @@ use std::alloc::Global;
 use tables::insert_new;
 use wire_bcs::OutOfMemory;
 
-/// The objects up to the first whose id stands there before it, each under its id.
+/// The objects before the first one that repeats the id of an earlier one, each under its id.
 pub(crate) fn front_of(
     alloc: Global,
     objects: &[Object],
@@ -41,7 +41,7 @@ pub(crate) fn behind(objects: &[Object], count: usize) -> &[Object]
     &objects[count..]
 }
 
-/// The object of this version; none exactly if there is none of the id, or one of another version.
+/// The object of this version; none exactly if there is no object of the id, or it has another version.
 pub(crate) fn at_version<'a>(
     base: &'a IndexMap<ObjectId, HashedObject>,
     key: &ObjectKey,

@@ -45,8 +45,8 @@ impl Store {
         }
     }
 
-    /// The ids of which the epoch wrote or deleted a version: of every other id the live object is that with which it
-    /// opened. Time grows with what was written and deleted, and not with what is held.
+    /// The ids of which the epoch wrote or deleted a version: the live object of every other id is the one with which
+    /// the epoch opened. Time grows with what was written and deleted, and not with what is held.
     #[tactic(auto, using(crate::proofs::Openings::untouched))]
     pub fn changed(&self) -> Result<Seq<ObjectId>, OutOfMemory>
         ensures { IfOk result (λ ids. AreChanged self.now ids) }

@@ -89,8 +89,8 @@ impl Store {
         Ok(true)
     }
 
-    /// Whether each of these objects is a version that is not held, and none stands there twice: what
-    /// [`Store::write`] asks of them.
+    /// Whether each of these objects is a version that is not held, and no version comes twice: what [`Store::write`]
+    /// requires of them.
     pub fn are_new(&self, objects: &Seq<HashedObject>) -> Result<bool, OutOfMemory>
         ensures { IfOk result (λ new. new ≡ are_new (held_in self.now) objects.now) }
     {

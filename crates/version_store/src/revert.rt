@@ -152,8 +152,8 @@ impl Maps {
 
 impl Store {
     /// Undoes every executed transaction that is not among these, and answers the undone ones, oldest
-    /// first. It asks nothing of them: what a kept one read of an undone one is gone all the same. A refusal
-    /// changes nothing. Time grows with what was executed and written in the epoch.
+    /// first. It does not check which transactions are kept: a version that a kept one read is gone if an undone one
+    /// wrote it. A refusal changes nothing. Time grows with what was executed and written in the epoch.
     pub fn revert_to(&mut self, kept: &Seq<Digest>) -> Result<Seq<Digest>, OutOfMemory>
         ensures ok { OnOk result (self.new ≡ reverted_to kept.now self.old) }
         ensures undone { IfOk result (λ txs. txs ≡ undone kept.now self.old) }

@@ -19,14 +19,14 @@ use wire_bcs::{OutOfMemory, Seq};
 /// transactions in order.
 #[derive(Drop)]
 pub struct Store {
-    /// The objects with which the epoch opened, under their ids; after a turn all of them. Of a set-up that
-    /// has an id twice, those from the second one on are among the versions.
+    /// The objects with which the epoch opened, under their ids. After a turn these are all of them; of a set-up that
+    /// repeats an id they are those before the first repetition, and the others are among the versions of `maps`.
     pub(crate) base: IndexMap<ObjectId, HashedObject>,
     /// Whether contracts see the base by ascending id, as after a turn, or in its own order.
     pub(crate) turned: bool,
     /// What this epoch wrote, executed, consumed and deleted.
     pub(crate) maps: Maps,
-    /// How many of the versions the epoch opened with too.
+    /// How many of the versions of `maps`, the first ones, the epoch opened with.
     pub(crate) opened: usize,
     pub(crate) alloc: Global,
 }
@@ -43,7 +43,7 @@ impl Model for Store {
 }
 
 impl Store {
-    /// The store of an epoch that opens with these objects, of which none stands there twice.
+    /// The store of an epoch that opens with these objects, in which no version comes twice.
     pub fn opening(alloc: Global, objects: &Seq<Object>) -> Result<Store, OutOfMemory>
         requires { are_new [] objects.now ≡ true }
         ensures { IfOk result (λ s. s ≡ record { opening = objects.now; executed = [] }) }

@@ -26,7 +26,7 @@ pub(crate) enum Case {
     WrongKind,
 }
 
-/// The version where a shared object begins.
+/// The key at which a shared object begins: its id and its initial version.
 fn shared_key(id: &ObjectId, initial: u64) -> ObjectKey
     ensures { result ≡ shared_key id.now initial }
 {
@@ -47,7 +47,7 @@ fn absent_version(store: &Store, reference: &ObjectRef) -> Option<DecideRefusal>
     }
 }
 
-/// A version that is not held, or a shared object of which none is.
+/// A named version that is not held, or a shared object of which no version is held.
 fn absent(store: &Store, input: &Input) -> Option<DecideRefusal>
     ensures { result ≡ absent (ballot_of store.now) input.now }
 {
@@ -88,7 +88,7 @@ fn wrong_digest(store: &Store, input: &Input) -> Option<DecideRefusal>
     }
 }
 
-/// Whether a user other than this owns it.
+/// Whether a user other than this one owns the object.
 fn is_others(owner: &Owner, user: &Address) -> bool
     ensures { result ≡ (is_address owner.now && not (is_owned_by user.now owner.now)) }
 {
@@ -98,7 +98,7 @@ fn is_others(owner: &Owner, user: &Address) -> bool
     }
 }
 
-/// An owned version of another user than the sender.
+/// An Owned input whose version belongs to a user other than the sender.
 fn wrong_owner(store: &Store, tx: &Transaction, input: &Input) -> Option<DecideRefusal>
     ensures { result ≡ wrong_owner (ballot_of store.now) tx.now input.now }
 {
@@ -157,7 +157,7 @@ fn not_immutable(store: &Store, reference: &ObjectRef) -> Option<DecideRefusal>
     }
 }
 
-/// A Shared input that is not live and shared since then.
+/// A Shared input whose object is not live, or is not shared from the initial version that the input names.
 fn not_shared(store: &Store, id: &ObjectId, initial: u64) -> Option<DecideRefusal>
     ensures { result ≡ where_true (not (of_held (live store.now.opening store.now.executed id.now) (λ o. is_shared_since initial o.owner))) (refused.WrongKind (shared_key id.now initial)) }
 {

@@ -32,7 +32,8 @@ fn add_holder(holders: &mut IndexMap<ObjectKey, Digest>, key: ObjectKey, tx: Dig
     }
 }
 
-/// Notes for each of the keys that this transaction consumes it, unless an earlier one is noted; there is room.
+/// Notes this transaction as the one that consumes each of the keys, unless an earlier one is noted for it; there is
+/// room.
 fn add_holders(holders: &mut IndexMap<ObjectKey, Digest>, keys: &[ObjectKey], tx: Digest)
     requires { length keys.now ≤ spare holders.old }
     ensures { holders.new.entries ≡ with_holders tx holders.old.entries keys.now }
@@ -181,7 +182,7 @@ impl CertificateStore {
         self.fork
     }
 
-    /// The first fork, if a transaction that consumes these versions is held too. Takes no memory.
+    /// The first fork once the transaction `tx`, which consumes these versions, is held too. Takes no memory.
     fn fork_behind(&self, keys: &[ObjectKey], tx: &Digest) -> Option<Fork>
         ensures { result ≡ first_some (option_map sides (fork_in [] self.now) ∷ fork_by tx.now (first_of (meets self.now) keys.now) ∷ []) }
     {

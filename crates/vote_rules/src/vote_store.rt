@@ -94,8 +94,8 @@ impl VoteStore {
         crate::decide(alloc, store, &self.locks, tx, digest)
     }
 
-    /// Takes a vote: for a transaction that was not voted for, and that consumes no version of a vote for another.
-    /// A refusal changes nothing.
+    /// Adds a vote for a transaction that was not voted for, and that consumes no version which a vote for another
+    /// transaction consumes. A refusal changes nothing.
     pub fn cast(
         &mut self,
         digest: Digest,

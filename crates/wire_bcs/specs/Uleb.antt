@@ -4,7 +4,7 @@ use Rattle.wire_bcs.specs.declared.fault.FaultKind.{FaultKind}
 use Rattle.wire_bcs.specs.declared.fault.FaultKind.TheVariants as kind
 use Rattle.wire_bcs.specs.Place.{Place, Read, left, forward, number_of_kind, stop, ◌>>=◌}
 
--- at most so many bytes and one: seven bits a byte, the lowest first, the top bit set if more follow
+-- in at most this many bytes and one more: seven bits a byte, the lowest first, the top bit set if more follow
 abbrev pub uleb_in : ℕ → ℕ → List ℕ
 uleb_in zero n = n ∷ []
 uleb_in (suc more) n = if nat_lt n 128 then n ∷ [] else ((128 + n % 128) ∷ uleb_in more (n / 128))
@@ -18,8 +18,8 @@ abbrev pub behind : ℕ → Result (ℕ × ℕ) FaultKind → Result (ℕ × ℕ
 behind b (Ok rest) = Ok (b - 128 + 128 * rest.0, suc rest.1)
 behind b (Err k) = Err k
 
--- the ULEB128 that goes on after its first byte, in at most `more` bytes and one: the value of these bytes and how
--- many they are; or the kind of the fault
+-- the ULEB128 that goes on after its first byte, in at most `more + 1` bytes: the value of these bytes and how many
+-- they are; or the kind of the fault
 abbrev pub uleb_rest : ℕ → List ℕ → Result (ℕ × ℕ) FaultKind
 uleb_rest more [] = Err kind.Short
 uleb_rest zero (b ∷ bytes) = if b == 0 then Err kind.LongUleb else (if nat_lt 15 b then Err kind.LargeUleb else Ok (b, 1))

@@ -4,7 +4,8 @@ ghost use Rattle.std.specs.Prelude.{◌≡◌, IfOk};
 
 use crate::seq::{OutOfMemory, Seq};
 
-/// A type whose values are copied, unless memory is refused. The copy of a list takes memory from the list's allocator.
+/// A type whose values can be copied; the only error is that memory is refused. The copy of a list takes its memory
+/// from the list's allocator.
 pub trait Duplicate: Drop {
     /// An equal value.
     fn copy(&self) -> Result<Self, OutOfMemory>

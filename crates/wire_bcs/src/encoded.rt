@@ -52,7 +52,7 @@ impl<T: Wire> Encoded<T> {
         Ok(Encoded { value, bytes })
     }
 
-    /// A value that these bytes encode.
+    /// A value beside these bytes, which are its encoding. Takes no memory.
     pub fn of(value: T, bytes: Seq<u8>) -> Encoded<T>
         requires { bytes ≡ T.codec.spell value }
         ensures { result ≡ value }

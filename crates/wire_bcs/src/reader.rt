@@ -54,7 +54,7 @@ impl<'a> Reader<'a> {
         self.at as u64
     }
 
-    /// The bytes from a mark up to here, lent: a mark that was made on the way here.
+    /// The bytes from a mark up to here, lent. The mark stands in the same input, here or before.
     #[tactic(auto, using(crate::proofs::Between::marked))]
     pub(crate) fn since(&self, mark: &Reader<'a>) -> &'a [u8]
         requires { Ahead mark.now self.now }
@@ -263,7 +263,7 @@ impl<'a> Reader<'a> {
         Ok(cells)
     }
 
-    /// Whether nothing is left; else a fault.
+    /// Checks that nothing is left; else the fault is at the first byte that is left.
     pub fn finish(&self) -> Result<(), WireFault>
         ensures { Ended self.now result }
     {
@@ -299,8 +299,8 @@ fn uleb_of(bytes: &[u8]) -> Result<(u32, usize), FaultKind>
     }
 }
 
-/// The value and the number of the bytes of a ULEB128 after its first one, of which there are at most `more` and one;
-/// or the number of its fault.
+/// The value of the bytes that follow the first byte of a ULEB128, at most `more + 1` of them, and how many they are;
+/// or the kind of the fault.
 #[tactic(auto, using(crate::proofs::Ulebs::room_small, crate::proofs::Ulebs::room_large))]
 fn uleb_rest_of(bytes: &[u8], more: u32) -> Result<(u32, usize), FaultKind>
     requires { more ≤ 3 }

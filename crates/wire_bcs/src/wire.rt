@@ -48,7 +48,8 @@ impl Wire for Digest {
     }
 }
 
-/// The items for which a list that is read has room at first: a longer one grows, since its input may end before them.
+/// The most items for which room is made before a list is read: a longer list grows as its items come, since the input
+/// may end before them.
 const FIRST_ITEMS: u32 = 64;
 
 #[tactic(auto, unfolding(crate::specs::Shapes::seq_spell, crate::specs::Shapes::seq_read), using(crate::specs::Wrote::parts))]
@@ -100,7 +101,8 @@ impl<T: Wire> Wire for Option<T> {
     }
 }
 
-/// The bytes for which an encoding has room at first: most statements, transactions and effects fit, so they never move.
+/// The bytes for which an encoding has room at first. Most statements, transactions and effects fit, so they are never
+/// moved.
 const FIRST_ROOM: usize = 256;
 
 /// The one encoding of a value.
@@ -134,11 +136,11 @@ pub fn read<T: Wire>(alloc: Global, reader: &mut Reader) -> Result<T, Unread>
 
 /// The value that all the bytes encode. A fault comes exactly if there is none, and is the first.
 pub fn decode<T: Wire>(alloc: Global, bytes: &[u8]) -> Result<T, Unread>
-    // What is read is encoded so, and is a value of its type.
+    // The bytes are the encoding of the value, which is a value of its type.
     ensures found { IfOk result (λ x. (bytes.now ≡ T.codec.spell x) × T.codec.fits x) }
-    // So it may be written again.
+    // So it can be encoded again.
     ensures short { IfOk result T.codec.short }
-    // What is encoded so is read, unless memory runs out.
+    // A value that these bytes encode is read, unless memory runs out.
     ensures only { (x : _) → T.codec.fits x → bytes.now ≡ T.codec.spell x → Decodes bytes.now result (Ok x) }
     // Which fault it is.
     ensures exact { Decodes bytes.now result (whole T.codec bytes.now) }

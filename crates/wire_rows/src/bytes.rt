@@ -9,7 +9,8 @@ fn repeated(alloc: Global, byte: &str, count: &str) -> Option<Vec<u8>> {
     vec![in alloc; byte; count].ok()
 }
 
-/// The bytes of one word: hexadecimal digits; `09*32`, a byte this many times; `<33`, this many of the bytes that were kept.
+/// The bytes of one word: hexadecimal digits; `09*32`, a byte this many times; `<33`, the first 33 of the bytes that
+/// were kept.
 fn piece_of(alloc: Global, word: &str, kept: &[u8]) -> Option<Vec<u8>> {
     if let Some(count) = word.strip_prefix('<') {
         let count = count.parse::<usize>().ok()?;

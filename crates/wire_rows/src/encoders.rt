@@ -98,7 +98,8 @@ fn record(rt: &HostRuntime, bytes: &[u8]) -> io::Result<()> {
     }
 }
 
-/// Whether the value of the bytes is encoded so by the call of this name; else goes on to the other calls.
+/// Says whether the call of this name encodes the value of the bytes as these bytes; any other name goes on to the
+/// other calls.
 pub(crate) fn encode_again(rt: &HostRuntime, name: &str, bytes: &[u8]) -> io::Result<()> {
     match name {
         "encode_tx" => tx(rt, bytes),

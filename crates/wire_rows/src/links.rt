@@ -10,8 +10,8 @@ use digest_core::Digest;
 use std::io;
 use wire_bcs::{Unread, decode};
 
-/// What stands before a checkpoint: `none`, or a number and the byte that its digest has everywhere. The number is not the
-/// greatest.
+/// What stands before a checkpoint: `none`, or a number and the byte that its digest has everywhere. The number is not
+/// the greatest u64.
 fn before_of(words: &str) -> Option<Option<(u64, Digest)>>
     ensures { IfSome result HasNext }
 {
@@ -27,8 +27,8 @@ fn before_of(words: &str) -> Option<Option<(u64, Digest)>>
     Some(Some((number, Digest([byte; 32]))))
 }
 
-/// Says whether a checkpoint goes on from the one before it, or what it had and what was wanted: `check_link 0 11 of BYTES` after
-/// number 0 and a digest whose bytes are 11, `check_link none of BYTES` after none.
+/// Says whether a checkpoint goes on from the one before it, or else what it had and what was wanted. A row is
+/// `check_link 0 11 of BYTES` after number 0 and a digest whose bytes are 11, `check_link none of BYTES` after none.
 pub(crate) fn link_of(rt: &HostRuntime, words: &str) -> io::Result<()> {
     let (before, bytes) = words.split_once(" of ").unwrap_or((words, ""));
     let (Some(before), Some(bytes)) = (before_of(before), bytes_of(rt.alloc(), bytes, &[])) else {

@@ -1,7 +1,8 @@
-//! Reads rows of worked bytes and calls, and writes the result of each: a line for a line.
+//! Reads rows, of worked bytes or of a call, and writes the result of each: one line for each row.
 //!
-//! A row begins with a name. After a type come the bytes of a value: the answer is the value and whether it is encoded so
-//! again, or the fault. After a call come its arguments. Empty lines and lines that begin with `#` are written as they are.
+//! A row begins with a name. After a type come the bytes of a value: the answer is whether it is encoded so again, and
+//! the value; or the fault. After a call come its arguments. Empty lines and lines that begin with `#` are written as
+//! they are.
 #![tactic(auto)]
 
 mod bytes;
@@ -21,8 +22,8 @@ use quorums::{check, lamport_of, seal_of, stakes, weigh};
 use std::io;
 use values::say;
 
-/// The answer to a row about bytes. Those of a row that does not begin with a part of an earlier row are kept, for the
-/// rows that do.
+/// The answer to a row about bytes. Its bytes are kept, for later rows to begin with a part of them, unless it begins
+/// with such a part itself.
 fn answer_of_bytes(
     rt: &HostRuntime,
     name: &str,

@@ -105,7 +105,7 @@ fn say_outcome(rt: &HostRuntime, name: &str, bytes: &[u8]) -> io::Result<()> {
     }
 }
 
-/// Whether the bytes are read, and a copy of what was read is encoded so again.
+/// Says whether a copy of the value of the bytes is encoded as these bytes.
 fn copy<T: Wire + Duplicate>(rt: &HostRuntime, bytes: &[u8]) -> io::Result<()> {
     let read: Result<T, Unread> = decode(rt.alloc(), bytes);
     match read {

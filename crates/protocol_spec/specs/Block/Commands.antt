@@ -77,14 +77,14 @@ place_of (argument.Nested c k) = result c k
 
 -- ---- causes of one argument
 
--- 2: Result of a command that gave another number of results than one, Nested without such a result
+-- 2: a Result of a command that did not give exactly one result, or a Nested whose result does not exist
 abbrev pub has_no_result : Block → Argument → Bool
 has_no_result b argument.Gas = false
 has_no_result b (argument.Input n) = false
 has_no_result b (argument.Result c) = not (result_count c b.slots == 1)
 has_no_result b (argument.Nested c k) = nat_le (result_count c b.slots) k
 
--- 3: pure bytes of another length than a number or an address has
+-- 3: pure bytes whose length is not that of the number or the address that is needed
 abbrev pub is_bad_pure : Need → Value → Bool
 is_bad_pure number (pure bytes) = not (length bytes == 8)
 is_bad_pure address (pure bytes) = not (length bytes == 32)
@@ -95,7 +95,7 @@ is_bad_pure coins (pure bytes) = false
 is_bad_pure need (object item) = false
 is_bad_pure need (vector k items) = false
 
--- 4: pure bytes if an object or a vector is needed, the contrary, or another kind
+-- 4: pure bytes although an object or a vector is needed, the reverse, or an object or a vector of the wrong kind
 abbrev pub is_right_kind : Need → Value → Bool
 is_right_kind number (pure bytes) = true
 is_right_kind address (pure bytes) = true
@@ -202,7 +202,7 @@ arguments_cause t b c earlier [] = None
 arguments_cause t b c earlier (x ∷ rest) =
     first_some (argument_cause t b c earlier x.0 x.1 ∷ arguments_cause t b c (earlier ++ x.0 ∷ []) rest ∷ [])
 
--- 11: a native has another number of parameters
+-- 11: a Call with more or fewer arguments than its native has parameters
 abbrev pub wrong_count : Command → Bool
 wrong_count (command.Call native args) = not (length args == length (parameters_of native))
 wrong_count (command.Transfer values to) = false
