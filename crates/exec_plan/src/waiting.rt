@@ -50,7 +50,7 @@ impl DependencyIndex {
         }
     }
 
-    /// Files a held certificate that is not executed: among those that need an admission, under the first transaction
+    /// Files a held certificate, unless it is executed: among those that need an admission, under the first transaction
     /// that it waits for, or among those that the next run looks at.
     fn file(
         &mut self,

@@ -251,7 +251,7 @@ impl Validator {
         answer
     }
 
-    /// Hands the next entry of the epoch's consensus sequence to the member (Sui Lutris); its number is counted from 0:
+    /// Hands the next entry of the epoch's consensus sequence, numbered from 0, to the member (Sui Lutris):
     /// answers what it did, and the checkpoints that it completes. Order of the refusals: `Down`, `Halted`, `Full`,
     /// `Over` if the end of the epoch was seen, `Gap` if `number` is not that of the entries seen, `KeepFault`, `Fork`.
     /// The record is appended before the call answers, whatever the entry is. After `KeepFault` and running out of
