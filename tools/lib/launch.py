@@ -114,7 +114,7 @@ class Launch:
         if status == REFUSED and command not in NO_SCHEDULE:
             yield f"the text is not a schedule. What to change: {self.advice()}"
         if status == KEEP_FAULT and command == "replay":
-            yield "a record is bad if the file is damaged, or if a run of another set-up kept it"
+            yield "if a record is bad, the file is damaged, or a run of another set-up kept it"
         if status == NEGATIVE and command in ("run", "make"):
             yield "a journal file keeps one run. Name a new file after `in`, or remove this one"
         if status == NEGATIVE and command == "chain":
